@@ -1,0 +1,6 @@
+pub mod ChainLemmas
+pub mod CrcLemmas
+pub mod ReadingLemmas
+mod Rows
+pub mod TakeLemmas
+pub mod VarintLemmas
