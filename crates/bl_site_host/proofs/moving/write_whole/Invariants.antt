@@ -1,0 +1,10 @@
+-- What is done of the bytes was appended.
+use Rattle.std.proofs.Common.{◌≤◌, length, take}
+use Rattle.std.specs.Io.KnownBytes.{Appends}
+use Rattle.bl_site_host.proofs.moving.write_whole.Given as goal
+
+abbrev pub invariant-loop : goal.invariant-loop
+invariant-loop g l = record {
+  within : l.done ≤ length l.bytes;
+  written : Appends (g.W.Write.contents l.fn.writer) (g.W.Write.contents l.writer) (take l.done l.bytes);
+}

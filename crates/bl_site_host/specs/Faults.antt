@@ -1,0 +1,13 @@
+-- How a failure of the host is answered and counted.
+use Rattle.std.specs.Prelude.{◌≡◌, ℕ, Result, Ok, Err}
+use Rattle.bl_site.specs.Causes.{one_more}
+use Rattle.bl_site.specs.declared.site.SiteErr.{SiteErr}
+use Rattle.bl_site.specs.declared.site.SiteErr.TheVariants.{DiskFailed, OutOfMemory}
+use Rattle.bl_site_host.specs.declared.faults.Fault.{Fault}
+use Rattle.bl_site_host.specs.declared.faults.Fault.TheVariants.{Disk, Memory}
+
+-- a failure of the system is counted, and want of memory is not
+abbrev pub IsCounted : {T : Type 0} → ℕ → ℕ → Result T Fault → Result T SiteErr → Type 0
+IsCounted before now (Ok x) result = (result ≡ Ok x) × (now ≡ before)
+IsCounted before now (Err Disk) result = (result ≡ Err DiskFailed) × (now ≡ one_more before)
+IsCounted before now (Err Memory) result = (result ≡ Err OutOfMemory) × (now ≡ before)

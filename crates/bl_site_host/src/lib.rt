@@ -1,0 +1,18 @@
+//! The real folder with standard output as a site, and standard input as a source.
+//!
+//! This is the trusted edge: what the system does with a file is stated by no clause, so the site and the source show no
+//! content. The loops that move bytes are generic over a reader or a writer, and say which bytes they moved.
+#![tactic(auto)]
+
+mod faults;
+mod folder;
+mod handles;
+mod input;
+mod moving;
+mod site;
+
+pub use input::HostSource;
+pub use site::HostSite;
+
+#[cfg(test)]
+mod tests;

@@ -1,0 +1,128 @@
+// The current folder and standard output as a site.
+ghost use Rattle.std.specs.Prelude.{[], None, OnOk};
+ghost use Rattle.std.specs.Io.KnownBytes.{Appends};
+
+use crate::faults::counted;
+use crate::folder::Folder;
+use crate::moving::write_whole;
+use bl_site::{Site, SiteErr};
+use std::alloc::Global;
+use std::io::{self, Write};
+use std::rt::Files;
+
+/// The current folder with standard output as a site. It shows no content.
+///
+/// Its files are the regular files whose names are UTF-8. A file in use stays open between calls, up to 64 of them. A name
+/// call is answered `Ok` only when the folder too is on the disk. Once the system has failed to put a file or the folder on
+/// the disk, no later `sync` or name call is answered `Ok`: it may have dropped bytes that it still shows.
+#[derive(Drop)]
+pub struct HostSite<R: Files + Print + AllocGlobal + Clone + Drop> {
+    folder: Folder<R>,
+    disk_faults: u64,
+    tell_faults: u64,
+    changes: u64,
+}
+
+impl<R: Files + Print + AllocGlobal + Clone + Drop> HostSite<R> {
+    /// The current folder and standard output, of which nothing was asked yet.
+    pub fn start(rt: R) -> HostSite<R> {
+        HostSite {
+            folder: Folder::new(rt),
+            disk_faults: 0,
+            tell_faults: 0,
+            changes: 0,
+        }
+    }
+}
+
+// Writes all of the bytes out.
+fn told<W: Write>(output: &mut W, bytes: &[u8]) -> io::Result<()>
+    ensures all { OnOk result (Appends (W.contents output.old) (W.contents output.new) bytes.now) }
+{
+    write_whole(output, bytes)?;
+    output.flush()
+}
+
+impl<R: Files + Print + AllocGlobal + Clone + Drop> Site for HostSite<R> {
+    ghost shows = { ⊥ };
+
+    ghost disk = { λ _ _. None };
+
+    ghost told = { λ _. [] };
+
+    ghost may_be = { λ _ _. ⊥ };
+
+    ghost certain = { λ _. ⊥ };
+
+    ghost clock = { λ _. 0 };
+
+    ghost left_since = { λ _ _ _. ⊥ };
+
+    ghost disk_faults = { λ s. s.disk_faults };
+
+    ghost tell_faults = { λ s. s.tell_faults };
+
+    ghost changes = { λ s. s.changes };
+
+    ghost remnant = { λ shown. absurd shown };
+
+    ghost reads = { λ shown. absurd shown };
+
+    ghost only = { λ shown. absurd shown };
+
+    ghost counts_now = { λ shown. absurd shown };
+
+    ghost earlier = { λ shown. absurd shown };
+
+    ghost only_now = { λ shown. absurd shown };
+
+    fn len(&mut self, name: &str) -> Result<Option<u64>, SiteErr> {
+        counted(&mut self.disk_faults, self.folder.length(name))
+    }
+
+    fn read_at(
+        &mut self,
+        name: &str,
+        offset: u64,
+        into: &mut [u8],
+    ) -> Result<Option<usize>, SiteErr> {
+        counted(&mut self.disk_faults, self.folder.read(name, offset, into))
+    }
+
+    fn list(&mut self, alloc: Global) -> Result<Vec<String>, SiteErr> {
+        counted(&mut self.disk_faults, self.folder.names(alloc))
+    }
+
+    fn create(&mut self, name: &str) -> Result<(), SiteErr> {
+        self.changes = self.changes.saturating_add(1);
+        counted(&mut self.disk_faults, self.folder.create(name))
+    }
+
+    fn append(&mut self, name: &str, bytes: &[u8]) -> Result<(), SiteErr> {
+        self.changes = self.changes.saturating_add(1);
+        counted(&mut self.disk_faults, self.folder.append(name, bytes))
+    }
+
+    fn sync(&mut self, name: &str) -> Result<(), SiteErr> {
+        self.changes = self.changes.saturating_add(1);
+        counted(&mut self.disk_faults, self.folder.sync(name))
+    }
+
+    fn rename(&mut self, from: &str, to: &str) -> Result<(), SiteErr> {
+        self.changes = self.changes.saturating_add(1);
+        counted(&mut self.disk_faults, self.folder.rename(from, to))
+    }
+
+    fn remove(&mut self, name: &str) -> Result<(), SiteErr> {
+        self.changes = self.changes.saturating_add(1);
+        counted(&mut self.disk_faults, self.folder.remove(name))
+    }
+
+    fn tell(&mut self, bytes: &[u8]) -> Result<(), SiteErr> {
+        if told(&mut io::writer(&self.folder.rt), bytes).is_err() {
+            self.tell_faults = self.tell_faults.saturating_add(1);
+            return Err(SiteErr::TellFailed);
+        }
+        Ok(())
+    }
+}

@@ -1,0 +1,11 @@
+mod FilesLemmas
+mod Listed
+mod Times
+mod Puts
+mod NameCalls
+mod FileCalls
+mod Cutting
+mod Replayed
+mod Bytes
+mod Counts
+mod Rows

@@ -1,0 +1,22 @@
+use Rattle.bl_site_mem.specs.Record.{Append}
+use Rattle.bl_site_mem.specs.Recorded.{counted}
+use Rattle.bl_site_mem.proofs.FileCalls.{append_quiet, append_silent, append_done, append_failed, append_follows, quiet_certain, silent_told, silent_time}
+use Rattle.bl_site_mem.proofs.site.MemSiteSite.append.Goals as goal
+
+pub returns-clause-done : goal.returns-clause-done
+returns-clause-done c = append_done c.args.name.now c.args.bytes.now c.do_append.result (counted (Append c.args.name.now c.args.bytes.now) c.args.self.now) c.do_append.new.self c.requires c.do_append.ensures.recorded
+
+pub returns-clause-failed : goal.returns-clause-failed
+returns-clause-failed c = append_failed c.args.name.now c.args.bytes.now c.do_append.result (counted (Append c.args.name.now c.args.bytes.now) c.args.self.now) c.do_append.new.self c.requires c.do_append.ensures.recorded
+
+pub returns-clause-certain : goal.returns-clause-certain
+returns-clause-certain c = quiet_certain (Append c.args.name.now c.args.bytes.now) (append_quiet c.args.name.now c.args.bytes.now) c.do_append.result (counted (Append c.args.name.now c.args.bytes.now) c.args.self.now) c.do_append.new.self c.do_append.ensures.recorded
+
+pub returns-clause-doubt : goal.returns-clause-doubt
+returns-clause-doubt c = append_follows c.args.name.now c.args.bytes.now c.do_append.result (counted (Append c.args.name.now c.args.bytes.now) c.args.self.now) c.do_append.new.self c.do_append.ensures.recorded
+
+pub returns-clause-told : goal.returns-clause-told
+returns-clause-told c = silent_told (Append c.args.name.now c.args.bytes.now) (append_silent c.args.name.now c.args.bytes.now) c.do_append.result (counted (Append c.args.name.now c.args.bytes.now) c.args.self.now) c.do_append.new.self c.do_append.ensures.recorded
+
+pub returns-clause-time : goal.returns-clause-time
+returns-clause-time c = silent_time (Append c.args.name.now c.args.bytes.now) (append_silent c.args.name.now c.args.bytes.now) c.do_append.result (counted (Append c.args.name.now c.args.bytes.now) c.args.self.now) c.do_append.new.self c.do_append.ensures.recorded
