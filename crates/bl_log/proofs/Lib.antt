@@ -1,0 +1,7 @@
+mod WalkLemmas
+mod LayoutLemmas
+mod JudgeLemmas
+mod StepLemmas
+mod ReaderLemmas
+mod WithinLemmas
+mod Rows

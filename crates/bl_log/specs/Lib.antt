@@ -1,0 +1,5 @@
+pub mod Log
+pub mod Layout
+pub mod Reading
+pub mod Answers
+pub mod Judge
