@@ -1,0 +1,4 @@
+mod OperationLemmas
+mod PrintLemmas
+mod Rows
+mod WordLemmas
