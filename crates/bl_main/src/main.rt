@@ -1,0 +1,48 @@
+//! `blob_shell`: a script on standard input, its replies on standard output, and the store in the current folder.
+#![tactic(auto)]
+
+use bl_shell::{Status, run};
+use bl_site_host::{HostSite, HostSource};
+use std::process::ExitCode;
+use std::{env, io};
+
+// What happened, and what the user can do.
+fn advice(status: Status) -> Option<&'static str> {
+    match status {
+        Status::Done => None,
+        Status::Words => Some("no words are taken: give the script on standard input"),
+        Status::ReadFault => Some("the script could not be read on: what was told before is done"),
+        Status::TellFault => Some(
+            "a reply could not be written: look at where standard output goes",
+        ),
+        Status::DiskFault => Some(
+            "the folder could not be read or written: look at its disk and its rights, and start again",
+        ),
+        Status::OutOfMemory => Some(
+            "memory ran out: start again with more of it, or with smaller values",
+        ),
+        Status::Corrupt => Some("the folder is not empty: start in an empty one"),
+        Status::Long => Some("the script has more than 2^40 bytes: split it"),
+    }
+}
+
+fn main(rt: HostRuntime) -> ExitCode {
+    let status = match start(&rt) {
+        Ok(status) => status,
+        Err(_) => Status::OutOfMemory,
+    };
+    if let Some(text) = advice(status) {
+        let _ = eprintln!(rt; "blob_shell: {text}");
+    }
+    ExitCode::from(status.number())
+}
+
+fn start(rt: &HostRuntime) -> io::Result<Status> {
+    let mut words = Vec::new(rt.alloc());
+    for word in env::args(rt)?.skip(1) {
+        words.push(word)?;
+    }
+    let mut script = HostSource::start(rt.stdin());
+    let mut site = HostSite::start(rt.clone()?);
+    Ok(run(rt.alloc(), words.as_slice(), &mut script, &mut site))
+}

@@ -1,0 +1,15 @@
+mod BatchLemmas
+mod CarriedLemmas
+mod EndLemmas
+mod HistoryLemmas
+mod LineLemmas
+mod LogLemmas
+mod MapLemmas
+mod NameLemmas
+mod OpenLemmas
+mod PieceLemmas
+mod Rows
+mod RunLemmas
+mod StartLemmas
+mod TellLemmas
+mod WordLemmas

@@ -1,0 +1,9 @@
+pub mod Script
+pub mod Short
+pub mod Writes
+pub mod Machine
+pub mod Folders
+pub mod Carried
+pub mod Telling
+pub mod Listed
+pub mod Causes
