@@ -107,14 +107,16 @@ fn a_log_is_read_however_it_is_cut(rt: HostRuntime) -> Result<(), Fail> {
 
 #[test]
 fn a_torn_log_ends_at_the_torn_fragment(rt: HostRuntime) -> Result<(), Fail> {
-    let log = small_log(rt.alloc())?;
-    assert_eq!(rt; log.len(), 43);
-    let told = read(rt.alloc(), &log[..33], b"")?;
+    let mut log = small_log(rt.alloc())?;
+    log.truncate(33);
+    let told = read(rt.alloc(), &log, b"")?;
     assert_eq!(rt; told.as_slice(), [19, 26, 0, 33, 33, 1].as_slice());
-    for cut in 27..33 {
-        let told = read(rt.alloc(), &log[..cut], b"")?;
-        assert_eq!(rt; told.as_slice(), [19, 26, 26, 2].as_slice());
-    }
+    log.truncate(32);
+    let told = read(rt.alloc(), &log, b"")?;
+    assert_eq!(rt; told.as_slice(), [19, 26, 26, 2].as_slice());
+    log.truncate(27);
+    let told = read(rt.alloc(), &log, b"")?;
+    assert_eq!(rt; told.as_slice(), [19, 26, 26, 2].as_slice());
     Ok(())
 }
 

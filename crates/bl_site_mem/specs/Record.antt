@@ -115,12 +115,11 @@ abbrev pub disk_failed : Call → Disk → Disk
 disk_failed (Append name bytes) disk = put disk name (option_map (appended (first_half bytes) bytes) (disk name))
 disk_failed call disk = disk
 
--- the name calls in doubt, after a call and after one that fails
+-- the name calls in doubt, after a call and after one that fails; a file that is put there is no name call
 abbrev pub doubt_after : Call → List Call → List Call
 doubt_after (Create name) doubt = []
 doubt_after (Rename from to) doubt = []
 doubt_after (Remove name) doubt = []
-doubt_after (PutFile name bytes) doubt = []
 doubt_after call doubt = doubt
 
 abbrev pub doubt_failed : Call → List Call → List Call

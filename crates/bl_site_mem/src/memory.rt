@@ -108,7 +108,7 @@ impl MemSite {
     pub fn put_file(&mut self, name: &str, bytes: &[u8]) -> Result<(), SiteErr>
         ensures recorded { OnOk result (self.new ≡ with_call (PutFile name.now bytes.now) false self.old) }
         ensures puts { OnOk result (Puts name.now (synced_file bytes.now) (disk_of self.old) (disk_of self.new)) }
-        ensures certain { OnOk result (IsCertain self.new) }
+        ensures certain { IsCertain self.old → OnOk result (IsCertain self.new) }
         ensures told { OnOk result (told_of self.new ≡ told_of self.old) }
         ensures unchanged { OnErr result (self.new ≡ self.old) }
         ensures only_memory { OnErr result (IsErrOf result OutOfMemory) }

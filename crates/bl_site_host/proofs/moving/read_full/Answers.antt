@@ -1,4 +1,4 @@
-use Rattle.std.proofs.Common.{rules, length, ◌-◌}
+use Rattle.std.proofs.Common.{rules}
 use Rattle.std.proofs.KnownBytes.{Consumes-kept}
 use Rattle.bl_site_host.proofs.Moved.{read_more, read_kept}
 use Rattle.bl_site_host.proofs.moving.read_full.Goals as goal
