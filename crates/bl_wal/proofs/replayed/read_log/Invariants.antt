@@ -1,0 +1,17 @@
+use Rattle.std.proofs.Common.{◌≡◌, ◌≤◌}
+use Rattle.bl_site.specs.Disk.{folder_of}
+use Rattle.bl_site.specs.Calls.{KeepsDisk}
+use Rattle.bl_wal.specs.Progress.{Progress}
+use Rattle.bl_wal.proofs.replayed.read_log.Given as goal
+
+abbrev pub invariant-steps : goal.invariant-steps
+invariant-steps g l =
+    let site = g.S.Site in
+    record {
+      progress : Progress l.fn.before site.shows (folder_of (site.disk l.fn.site) l.fn.name) l.offset l.reader l.entries.items l.last;
+      stays : site.shows → KeepsDisk site.disk site.may_be site.certain l.fn.site l.site;
+      told : site.shows → site.told l.site ≡ site.told l.fn.site;
+      later : site.disk_faults l.fn.site ≤ site.disk_faults l.site;
+      tell_faults : site.tell_faults l.site ≡ site.tell_faults l.fn.site;
+      changes : site.changes l.site ≡ site.changes l.fn.site;
+    }
