@@ -1,0 +1,6 @@
+mod BuilderLemmas
+mod FieldLemmas
+mod ProgressLemmas
+mod ReadLemmas
+mod RecordLemmas
+mod Rows

@@ -1,0 +1,3 @@
+mod IndexLemmas
+mod MeterLemmas
+mod Rows
