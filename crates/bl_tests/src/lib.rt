@@ -1,5 +1,9 @@
-//! Tests that go through all crates: scripts over a folder in memory, with calls that fail.
+//! Tests that go through all crates: scripts over a folder in memory, with calls that fail; logs; blob files.
 #![tactic(auto)]
 
+#[cfg(test)]
+mod blobs;
+#[cfg(test)]
+mod logs;
 #[cfg(test)]
 mod scripts;
