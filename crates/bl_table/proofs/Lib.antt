@@ -1,0 +1,9 @@
+mod CellLemmas
+mod MoveLemmas
+mod ContentsLemmas
+mod ScanLemmas
+mod BlockLemmas
+mod WalkLemmas
+mod SpellLemmas
+mod BuildLemmas
+mod Rows

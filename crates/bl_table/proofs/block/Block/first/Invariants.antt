@@ -1,0 +1,15 @@
+use Rattle.std.proofs.Common.{◌≡◌, ◌+◌, List, length, map}
+use Rattle.bl_table.specs.Blocks.{Cell, entry_of, first_from}
+use Rattle.bl_table.proofs.WalkLemmas.{Walks}
+use Rattle.bl_table.proofs.block.Block.first.Given as goal
+
+abbrev pub invariant-entries : goal.invariant-entries
+invariant-entries l = record {
+  total : l.taker.place + length l.taker.left ≡ l.self-inside.limit;
+  left : List Cell;
+  walks : Walks l.self-inside.offset l.taker l.before.items left;
+  same : first_from l.from (map (entry_of l.self-inside.offset) left) ≡ first_from l.from l.self;
+}
+
+abbrev pub decreases-entries : goal.decreases-entries
+decreases-entries l = length l.taker.left

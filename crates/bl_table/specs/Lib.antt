@@ -1,0 +1,9 @@
+pub mod Faults
+pub mod Blocks
+pub mod Steps
+pub mod Scans
+pub mod Spelling
+pub mod Building
+pub mod Marks
+pub mod Table
+pub mod Handles

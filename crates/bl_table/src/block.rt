@@ -1,0 +1,130 @@
+//! Blocks of a table, read and kept.
+
+ghost use Rattle.std.specs.Prelude.{◌≡◌, ◌+◌, ◌^◌, ◌<◌, ◌≤◌, ◌++◌, ◌∷◌, [], length, IfOk};
+ghost use Rattle.bl_code.specs.Crc.{crc32c, mask_of};
+ghost use Rattle.bl_table.specs.Faults.{Answers};
+ghost use Rattle.bl_table.specs.Blocks.{read_block, first_from, next_after};
+
+use crate::check::{block_fault, is_before, number_at};
+use crate::entry::{BlockEntry, next_entry};
+use crate::fault::{BadTable, TableErr, TableRule};
+use crate::handle::Handle;
+use bl_code::{Crc, Octets, Taker, mask};
+use std::alloc::Global;
+use std::marker::Model;
+use std::mem;
+
+/// The bytes of a trailer: a type, and a checksum of four bytes.
+const TRAILER: u64 = 5;
+
+/// A block that was read and found good. Contracts see its entries.
+#[derive(Drop)]
+pub struct Block {
+    offset: u64,
+    bytes: Vec<u8>,
+    limit: usize,
+    count: usize,
+}
+
+impl Model for Block {
+    ghost use Rattle.std.specs.Prelude.{◌≡◌, ◌+◌, ◌*◌, ◌<◌, ◌≤◌, ◌^◌, List, length, map, take, None};
+    ghost use Rattle.bl_table.specs.declared.entry.BlockEntry.{BlockEntry};
+
+    ghost Value = { List BlockEntry };
+
+    ghost use Rattle.bl_table.specs.Blocks.{contents, cells_in, entry_of};
+
+    ghost view = { λ b. map (entry_of b.offset) (cells_in (take b.limit b.bytes.items)).cells };
+
+    ghost invariant = { λ b. (0 < b.count) × (b.limit + 4 * b.count ≤ length b.bytes.items) × (b.offset + length b.bytes.items < 2 ^ 64) × ((contents b.offset b.bytes.items b.limit b.count).fault ≡ None) };
+}
+
+/// The checksum of a block and its type, as it is stored.
+pub(crate) fn sum_of(block: &[u8], kind: u8) -> u32
+    ensures { result ≡ mask_of (crc32c (block.now ++ kind ∷ [])) }
+{
+    let mut crc = Crc::start();
+    crc.extend(block);
+    crc.extend(&[kind]);
+    mask(crc.value())
+}
+
+impl Block {
+    /// Reads a block with its trailer. `Length` at the handle's offset where the bytes are not so many as
+    /// the handle says and a trailer has, or would pass 2^64.
+    pub fn parse(alloc: Global, bytes: &[u8], handle: Handle) -> Result<Block, BadTable>
+        ensures { Answers result (read_block bytes.now handle) }
+    {
+        let size = bytes.len() as u64;
+        if size < TRAILER || size - TRAILER != handle.size || handle.offset > u64::MAX - size {
+            return Err(BadTable::At(TableRule::Length, handle.offset));
+        }
+        let (block, trailer) = bytes.split_at(handle.size as usize);
+        if let Some(fault) = block_fault(alloc, block, handle.offset)? {
+            return Err(BadTable::At(fault.rule, fault.place));
+        }
+        if trailer[0] != 0 {
+            return Err(BadTable::At(TableRule::Kind, handle.offset + handle.size));
+        }
+        if number_at(trailer, 1) != sum_of(block, trailer[0]) {
+            return Err(BadTable::At(TableRule::Crc, handle.offset + handle.size + 1));
+        }
+        let at = block.len() - 4;
+        let count = number_at(block, at) as usize;
+        Ok(Block {
+            offset: handle.offset,
+            bytes: Vec::from_slice(alloc, block)?,
+            limit: at - 4 * count,
+            count,
+        })
+    }
+
+    /// The first entry at or behind a key of at least 9 bytes.
+    pub fn first(&self, alloc: Global, from: &[u8]) -> Result<Option<BlockEntry>, TableErr>
+        requires { 9 ≤ length from.now }
+        ensures { IfOk result (λ e. e ≡ first_from from.now self.now) }
+    {
+        let mut taker = Taker::over(&self.bytes[..self.limit]);
+        let mut before = Vec::new(alloc);
+        let mut key = Vec::new(alloc);
+        'entries: while taker.left() > 0 {
+            let Some(entry) = next_entry(&mut taker, &before, &mut key)? else {
+                return Ok(None);
+            };
+            if !is_before(&key, from) {
+                return Ok(Some(BlockEntry {
+                    place: self.offset + entry.place,
+                    value: Octets::from_slice(alloc, entry.value)?,
+                    key: Octets::from_vec(key),
+                }));
+            }
+            mem::swap(&mut before, &mut key);
+        }
+        Ok(None)
+    }
+
+    /// The entry that follows the one at a place of the table; None where none follows, or none stands there.
+    pub fn after(&self, alloc: Global, place: u64) -> Result<Option<BlockEntry>, TableErr>
+        ensures { IfOk result (λ e. e ≡ next_after place self.now) }
+    {
+        let mut taker = Taker::over(&self.bytes[..self.limit]);
+        let mut before = Vec::new(alloc);
+        let mut key = Vec::new(alloc);
+        let mut passed = false;
+        'entries: while taker.left() > 0 {
+            let Some(entry) = next_entry(&mut taker, &before, &mut key)? else {
+                return Ok(None);
+            };
+            if passed {
+                return Ok(Some(BlockEntry {
+                    place: self.offset + entry.place,
+                    value: Octets::from_slice(alloc, entry.value)?,
+                    key: Octets::from_vec(key),
+                }));
+            }
+            passed = self.offset + entry.place == place;
+            mem::swap(&mut before, &mut key);
+        }
+        Ok(None)
+    }
+}

@@ -1,0 +1,8 @@
+//! Handles of blocks.
+
+/// Where a block stands in its table: the offset of its first byte, and its size without the trailer.
+#[derive(Clone, Copy, Debug, Drop, PartialEq, Eq)]
+pub struct Handle {
+    pub offset: u64,
+    pub size: u64,
+}
