@@ -4,4 +4,5 @@ mod JudgeLemmas
 mod StepLemmas
 mod ReaderLemmas
 mod WithinLemmas
+mod WrittenLemmas
 mod Rows

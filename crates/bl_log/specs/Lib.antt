@@ -3,3 +3,4 @@ pub mod Layout
 pub mod Reading
 pub mod Answers
 pub mod Judge
+pub mod Written

@@ -13,4 +13,6 @@ pub use cause::EndCause;
 pub use reader::{
     LogNext, LogReader, found_records_are_first, placed_records_are_records, reading_ends_within,
 };
-pub use writer::{LogErr, LogWriter, log_is_read, log_is_read_first, written_is_log};
+pub use writer::{
+    LogErr, LogWriter, log_is_read, log_is_read_first, only_written_is_read_first, written_is_log,
+};

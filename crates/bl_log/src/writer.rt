@@ -3,6 +3,7 @@
 ghost use Rattle.std.specs.Prelude.{◌≡◌, ℕ, ◌+◌, ◌-◌, ◌%◌, ◌<◌, ◌≤◌, ◌^◌, List, [], ◌∷◌, ◌++◌, false, length, replicate, IfOk, OnOk, OnErr};
 ghost use Rattle.bl_log.specs.Log.{records, IsLog};
 ghost use Rattle.bl_log.specs.Layout.{fragment, pieces, spelled, type_of, layout, written};
+ghost use Rattle.bl_log.specs.Written.{OnlyWritten};
 
 use bl_code::{CodeErr, Crc, Octets, mask, put_fixed16, put_fixed32};
 use std::alloc::{AllocError, AllocFailed, Global};
@@ -150,4 +151,10 @@ pub fn log_is_read()
 /// Whatever follows a log, its records are read first.
 pub fn log_is_read_first()
     ensures { (bytes : List ℕ) (payloads : List (List ℕ)) → IsLog bytes payloads → (more : List ℕ) → (rest : List (List ℕ)) × (records (bytes ++ more) ≡ payloads ++ rest) }
+{}
+
+/// Where each fragment that is read stands at its place in what was written, as it does after a power cut unless a torn fragment's
+/// checksum matches by chance, the records are the first of those written.
+pub fn only_written_is_read_first()
+    ensures { (bytes all : List ℕ) → OnlyWritten bytes all → (rest : List (List ℕ)) × (records all ≡ records bytes ++ rest) }
 {}
