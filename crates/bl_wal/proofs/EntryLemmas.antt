@@ -1,12 +1,12 @@
 -- Entries of operations, one after the other.
-use Rattle.std.proofs.Common.{◌≡◌, ℕ, zero, suc, ◌+◌, ◌<◌, ◌≤◌, List, [], ◌∷◌, ◌++◌, length, take, Option, None, Some, refl, sym, ◌∙◌, ap, subst, arith, append_assoc, append-nil, add-one}
+use Rattle.std.proofs.Common.{◌≡◌, ℕ, zero, suc, ◌+◌, ◌<◌, List, [], ◌∷◌, ◌++◌, length, take, Option, None, Some, refl, sym, ◌∙◌, ap, subst, arith, append_assoc, append-nil, add-one}
 use Rattle.std.specs.Prelude.{slice_get, option_and_then}
 use Rattle.std.specs.Option.{option_map}
 use Rattle.std.specs.List.{AllByRecursion}
-use Rattle.bl_entry.specs.Batches.{Batch, IsOperation, AreOperations}
+use Rattle.bl_entry.specs.Batches.{IsOperation}
 use Rattle.bl_entry.specs.declared.batch.Operation.{Operation}
 use Rattle.bl_entry.specs.declared.key.Entry.{Entry}
-use Rattle.bl_wal.specs.Entries.{entry, entries_from, entries_of}
+use Rattle.bl_wal.specs.Entries.{entry, entries_from}
 
 pub there : (ops : List Operation) (k : ℕ) → k < length ops → (o : Operation) × (slice_get ops k ≡ Some o)
 there [] k lt = absurd (omega arith)

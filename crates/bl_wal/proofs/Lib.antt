@@ -1,3 +1,6 @@
 mod EntryLemmas
+mod HeldLemmas
+mod LawLemmas
 mod ProgressLemmas
 mod RecordLemmas
+mod TimeLemmas

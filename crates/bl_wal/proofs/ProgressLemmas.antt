@@ -1,5 +1,5 @@
 -- A replay, step by step.
-use Rattle.std.proofs.Common.{◌≡◌, ◌⊎◌, inl, inr, ℕ, ◌+◌, ◌-◌, ◌<◌, ◌≤◌, ◌%◌, ◌^◌, min, Bool, true, false, List, [], ◌∷◌, ◌++◌, length, map, take, drop, Option, Some, None, refl, sym, ◌∙◌, ap, subst, arith, append-nil, append_assoc}
+use Rattle.std.proofs.Common.{◌≡◌, ◌⊎◌, inl, inr, ℕ, ◌+◌, ◌-◌, ◌<◌, ◌≤◌, min, Bool, true, false, List, [], ◌∷◌, ◌++◌, length, map, take, drop, Option, Some, None, refl, sym, ◌∙◌, ap, subst, arith, append-nil, append_assoc}
 use Rattle.std.proofs.Math.Seq.{take-add}
 use Rattle.std.proofs.lemmas.List.{take_all, map-append, take-append-drop}
 use Rattle.std.specs.Prelude.{MatchOption, option_and_then}
@@ -17,7 +17,7 @@ use Rattle.bl_wal.specs.declared.error.WalErr.{WalErr}
 use Rattle.bl_wal.specs.declared.error.WalErr.TheVariants.{OutOfMemory, Corrupt}
 use Rattle.std.proofs.lemmas.Grind.{flat_map-append}
 use Rattle.bl_log.specs.declared.cause.EndCause.{EndCause}
-use Rattle.bl_log.specs.Log.{records, records_of, placed_records, steps, IsDecided}
+use Rattle.bl_log.specs.Log.{records, records_of, placed_records, steps}
 use Rattle.bl_log.specs.Reading.{Reading, HasRead, HasEnded, FindsNext, WantsMore}
 use Rattle.bl_entry.specs.Batches.{Batch}
 use Rattle.bl_entry.specs.Records.{batches_of, and_batches, BatchesJoin}

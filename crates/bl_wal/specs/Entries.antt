@@ -1,7 +1,6 @@
 -- The entries that batches write.
 use Rattle.std.specs.Prelude.{ℕ, ◌+◌, List, [], ◌∷◌, flat_map, Option, None, Some}
 use Rattle.bl_entry.specs.Batches.{Batch}
-use Rattle.bl_entry.specs.Keys.{Key}
 use Rattle.bl_entry.specs.declared.batch.Operation.{Operation}
 use Rattle.bl_entry.specs.declared.key.Kind.TheVariants.{Deletion, Value}
 use Rattle.bl_entry.specs.declared.key.Entry.{Entry}

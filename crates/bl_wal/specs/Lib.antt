@@ -1,5 +1,8 @@
 pub mod Causes
+pub mod Chance
 pub mod Entries
+pub mod Held
+pub mod Laws
 pub mod LogFile
 pub mod Progress
 pub mod Replay

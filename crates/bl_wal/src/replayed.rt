@@ -2,8 +2,8 @@
 
 ghost use Rattle.std.specs.Prelude.{◌≡◌, ℕ, ◌+◌, ◌<◌, ◌≤◌, ◌^◌, List, [], ◌∷◌, ◌++◌, length, Bool, Err, IfOk, IfErr, OnOk, IsErrOf, string_bytes, IsTrue, true, false, None, Some, ◌⊎◌};
 ghost use Rattle.std.specs.Option.{option_copied};
-ghost use Rattle.bl_site.specs.Disk.{Name, folder_of};
-ghost use Rattle.bl_site.specs.Calls.{KeepsDisk};
+ghost use Rattle.bl_site.specs.Disk.{Name, MayLeave, folder_of};
+ghost use Rattle.bl_site.specs.Calls.{KeepsDisk, Elapses};
 ghost use Rattle.bl_site.specs.Causes.{Rose};
 ghost use Rattle.bl_names.specs.Names.{IsNumber};
 ghost use Rattle.bl_entry.specs.Batches.{AreOperations};
@@ -122,6 +122,7 @@ fn feed_piece<S: Site>(
     ensures absent { S.shows → IfOk result (λ there. there ≡ false → folder_of (S.disk site.old) name.now ≡ None) }
     ensures stays { S.shows → KeepsDisk S.disk S.may_be S.certain site.old site.new }
     ensures told { S.shows → S.told site.new ≡ S.told site.old }
+    ensures time { S.shows → Elapses (S.clock site.old) (S.clock site.new) (S.left_since site.old) (S.left_since site.new) (MayLeave (S.may_be site.old) (S.told site.old)) }
     ensures causes { IfErr result IsCause }
     ensures disk { IsErrOf result WalErr.Disk → Rose (S.disk_faults site.old) (S.disk_faults site.new) }
     ensures later { S.disk_faults site.old ≤ S.disk_faults site.new }
@@ -165,6 +166,7 @@ fn read_log<S: Site>(
     ensures corrupt { S.shows → (file : List ℕ) (place : ℕ) → result ≡ Err (WalErr.Corrupt file place) → (file ≡ name.now) × ((bytes : List ℕ) → folder_of (S.disk site.old) name.now ≡ Some bytes → BreaksOff bytes before place) }
     ensures stays { S.shows → KeepsDisk S.disk S.may_be S.certain site.old site.new }
     ensures told { S.shows → S.told site.new ≡ S.told site.old }
+    ensures time { S.shows → Elapses (S.clock site.old) (S.clock site.new) (S.left_since site.old) (S.left_since site.new) (MayLeave (S.may_be site.old) (S.told site.old)) }
     ensures disk { IsErrOf result WalErr.Disk → Rose (S.disk_faults site.old) (S.disk_faults site.new) }
     ensures later { S.disk_faults site.old ≤ S.disk_faults site.new }
     ensures tell_faults { S.tell_faults site.new ≡ S.tell_faults site.old }
@@ -216,6 +218,7 @@ pub fn replay<S: Site>(
     ensures corrupt { S.shows → (file : List ℕ) (place : ℕ) → result ≡ Err (WalErr.Corrupt file place) → (file ≡ log_name number) × IsTorn (folder_of (S.disk site.old)) number last place }
     ensures stays { S.shows → KeepsDisk S.disk S.may_be S.certain site.old site.new }
     ensures told { S.shows → S.told site.new ≡ S.told site.old }
+    ensures time { S.shows → Elapses (S.clock site.old) (S.clock site.new) (S.left_since site.old) (S.left_since site.new) (MayLeave (S.may_be site.old) (S.told site.old)) }
     ensures disk { IsErrOf result WalErr.Disk → Rose (S.disk_faults site.old) (S.disk_faults site.new) }
     ensures later { S.disk_faults site.old ≤ S.disk_faults site.new }
     ensures tell_faults { S.tell_faults site.new ≡ S.tell_faults site.old }

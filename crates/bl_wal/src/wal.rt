@@ -1,12 +1,13 @@
 //! A log that is written.
 
-ghost use Rattle.std.specs.Prelude.{◌≡◌, ℕ, ◌+◌, ◌≤◌, ◌^◌, ◌↔◌, true, false, length, IsTrue, IsSome, IfOk, IfErr, OnOk, OnErr, IsErrOf};
-ghost use Rattle.bl_site.specs.Disk.{Disk};
-ghost use Rattle.bl_site.specs.Calls.{Creates, Appends, AppendsAny, DoneOrNot, KeepsDisk};
+ghost use Rattle.std.specs.Prelude.{◌≡◌, ℕ, ◌+◌, ◌≤◌, ◌^◌, ◌↔◌, [], true, false, length, IsTrue, IsSome, IfOk, IfErr, OnOk, OnErr, IsErrOf};
+ghost use Rattle.bl_site.specs.Disk.{Disk, MayLeave};
+ghost use Rattle.bl_site.specs.Calls.{Creates, Appends, AppendsAny, Syncs, Frays, DoneOrNot, MayDuring, InDoubt, FollowsFile, KeepsDisk, StandsStill, Elapses};
 ghost use Rattle.bl_site.specs.Causes.{Rose, one_more};
 ghost use Rattle.bl_names.specs.Names.{IsNumber};
-ghost use Rattle.bl_wal.specs.Causes.{IsCause};
+ghost use Rattle.bl_wal.specs.Causes.{IsCause, ChangesOnce};
 ghost use Rattle.bl_wal.specs.LogFile.{log_name, new_log, record_bytes, behind};
+ghost use Rattle.bl_wal.specs.Held.{Batches, IsReadBack, HoldsBatches, HoldsOneMore, HoldsAllSynced};
 
 use crate::error::WalErr;
 use bl_entry::{Batch, encode_batch};
@@ -48,11 +49,24 @@ impl Wal {
         ensures certain { S.shows → OnOk result (S.certain site.new) }
         ensures failed { S.shows → IsErrOf result WalErr.Disk → DoneOrNot (Creates (log_name number)) (S.disk site.old) (S.disk site.new) }
         ensures memory { S.shows → IsErrOf result WalErr.OutOfMemory → S.disk site.new ≡ S.disk site.old }
+        ensures keeps { S.shows → IsErrOf result WalErr.OutOfMemory → KeepsDisk S.disk S.may_be S.certain site.old site.new }
+
+        // It holds no batch.
+        ensures holds { S.shows → OnOk result (HoldsBatches (S.disk site.new) (new_log number) [] 0) }
+
+        // What a cut during it, or after it, may leave.
+        ensures doubt { S.shows → InDoubt (Creates (log_name number)) (S.may_be site.old) (S.may_be site.new) }
+        ensures time { S.shows → Elapses (S.clock site.old) (S.clock site.new) (S.left_since site.old) (S.left_since site.new)
+            (MayLeave (MayDuring (Creates (log_name number)) (S.may_be site.old)) (S.told site.old)) }
+        ensures still { S.shows → IsErrOf result WalErr.OutOfMemory → StandsStill S.clock S.left_since site.old site.new }
+
         ensures told { S.shows → S.told site.new ≡ S.told site.old }
         ensures causes { IfErr result IsCause }
         ensures disk { IsErrOf result WalErr.Disk → Rose (S.disk_faults site.old) (S.disk_faults site.new) }
+        ensures no_fault { IsErrOf result WalErr.OutOfMemory → S.disk_faults site.new ≡ S.disk_faults site.old }
         ensures later { S.disk_faults site.old ≤ S.disk_faults site.new }
         ensures tell_faults { S.tell_faults site.new ≡ S.tell_faults site.old }
+        ensures changes { ChangesOnce result (S.changes site.old) (S.changes site.new) }
     {
         let name = print_name(alloc, &FileName::Log(number))?;
         site.create(name.as_str())?;
@@ -83,16 +97,34 @@ impl Wal {
         ensures moved { OnOk result (self.new ≡ behind self.old (record_bytes self.old.place first batch.now)) }
         ensures torn { S.shows → IsErrOf result WalErr.Disk → AppendsAny (log_name self.old.number) (record_bytes self.old.place first batch.now) (S.disk site.old) (S.disk site.new) }
         ensures memory { S.shows → IsErrOf result WalErr.OutOfMemory → S.disk site.new ≡ S.disk site.old }
+        ensures keeps { S.shows → IsErrOf result WalErr.OutOfMemory → KeepsDisk S.disk S.may_be S.certain site.old site.new }
+
+        // It holds one batch more, also where the folder failed: then only some first bytes of it may read.
+        ensures holds { S.shows → (batches : Batches) (synced : ℕ) → HoldsBatches (S.disk site.old) self.old batches synced
+            → HoldsOneMore result (S.disk site.new) self.new batches (record { first = first; operations = batch.now }) synced }
+
+        // The record is read as this batch.
+        ensures reads { OnOk result (IsReadBack (record { first = first; operations = batch.now })) }
+        ensures reads_torn { IsErrOf result WalErr.Disk → IsReadBack (record { first = first; operations = batch.now }) }
 
         // It has failed exactly after `Disk`, and after `OutOfMemory` once the folder was asked; else it is as it was.
         ensures disk_fails { IsErrOf result WalErr.Disk → self.new.failed ≡ true }
         ensures asked_fails { self.new.failed ≡ true → S.changes site.new ≡ one_more (S.changes site.old) }
         ensures stays { OnErr result (self.new.failed ≡ false → (self.new ≡ self.old) × (S.changes site.new ≡ S.changes site.old)) }
+        ensures asked { OnOk result (S.changes site.new ≡ one_more (S.changes site.old)) }
+        ensures number { self.new.number ≡ self.old.number }
 
+        // What a cut during it, or after it, may leave.
         ensures certain { S.shows → S.certain site.old → S.certain site.new }
+        ensures doubt { S.shows → FollowsFile (log_name self.old.number) (S.disk site.old) (S.disk site.new) (S.may_be site.old) (S.may_be site.new) }
+        ensures time { S.shows → Elapses (S.clock site.old) (S.clock site.new) (S.left_since site.old) (S.left_since site.new)
+            (MayLeave (S.may_be site.new) (S.told site.new)) }
+        ensures still { S.shows → IsErrOf result WalErr.OutOfMemory → StandsStill S.clock S.left_since site.old site.new }
+
         ensures told { S.shows → S.told site.new ≡ S.told site.old }
         ensures causes { IfErr result IsCause }
         ensures disk { IsErrOf result WalErr.Disk → Rose (S.disk_faults site.old) (S.disk_faults site.new) }
+        ensures no_fault { IsErrOf result WalErr.OutOfMemory → S.disk_faults site.new ≡ S.disk_faults site.old }
         ensures later { S.disk_faults site.old ≤ S.disk_faults site.new }
         ensures tell_faults { S.tell_faults site.new ≡ S.tell_faults site.old }
     {
@@ -105,6 +137,45 @@ impl Wal {
                 Err(error.into())
             }
         }
+    }
+
+    /// Syncs the log: every cut from now on keeps all that was appended. The log is in the folder, and no call of it has failed. It
+    /// takes no memory of its own.
+    ///
+    /// Errors: `Disk`, after which the bytes since the last sync may read as any others, at most as many, and a cut may leave what
+    /// it might have left before; `OutOfMemory`, after which the folder is as it was. After both the log has failed.
+    pub fn sync<S: Site>(&mut self, site: &mut S) -> Result<(), WalErr>
+        requires usable { self.old.failed ≡ false }
+        requires there { S.shows → IsSome (S.disk site.old (log_name self.old.number)) }
+        ensures synced { S.shows → OnOk result (Syncs (log_name self.old.number) (S.disk site.old) (S.disk site.new)) }
+        ensures frayed { S.shows → IsErrOf result WalErr.Disk → Frays (log_name self.old.number) (S.disk site.old) (S.disk site.new) }
+        ensures keeps { S.shows → IsErrOf result WalErr.OutOfMemory → KeepsDisk S.disk S.may_be S.certain site.old site.new }
+        ensures stays { OnOk result (self.new ≡ self.old) }
+        ensures fails { OnErr result (self.new ≡ record self.old { failed = true }) }
+
+        // All its batches are on the disk.
+        ensures holds { S.shows → (batches : Batches) (synced : ℕ) → HoldsBatches (S.disk site.old) self.old batches synced
+            → HoldsAllSynced result (S.disk site.new) self.new batches synced }
+
+        // What a cut during it, or after it, may leave.
+        ensures certain { S.shows → S.certain site.old → S.certain site.new }
+        ensures doubt { S.shows → FollowsFile (log_name self.old.number) (S.disk site.old) (S.disk site.new) (S.may_be site.old) (S.may_be site.new) }
+        ensures time { S.shows → Elapses (S.clock site.old) (S.clock site.new) (S.left_since site.old) (S.left_since site.new)
+            (MayLeave (S.may_be site.new) (S.told site.new)) }
+        ensures still { S.shows → IsErrOf result WalErr.OutOfMemory → StandsStill S.clock S.left_since site.old site.new }
+
+        ensures told { S.shows → S.told site.new ≡ S.told site.old }
+        ensures causes { IfErr result IsCause }
+        ensures disk { IsErrOf result WalErr.Disk → Rose (S.disk_faults site.old) (S.disk_faults site.new) }
+        ensures no_fault { IsErrOf result WalErr.OutOfMemory → S.disk_faults site.new ≡ S.disk_faults site.old }
+        ensures later { S.disk_faults site.old ≤ S.disk_faults site.new }
+        ensures tell_faults { S.tell_faults site.new ≡ S.tell_faults site.old }
+        ensures changes { S.changes site.new ≡ one_more (S.changes site.old) }
+    {
+        let synced = site.sync(self.name.as_str());
+        self.failed = synced.is_err();
+        synced?;
+        Ok(())
     }
 
     /// Whether a call of it has failed: it answered `Disk`, or `OutOfMemory` once the folder was asked. No other call may follow.

@@ -1,4 +1,4 @@
-use Rattle.std.proofs.Common.{◌≡◌, ◌+◌, ℕ, arith}
+use Rattle.std.proofs.Common.{arith}
 use Rattle.bl_wal.proofs.ProgressLemmas.{at_some, closes, feeds}
 use Rattle.bl_wal.proofs.replayed.feed_piece.Goals as goal
 

@@ -1,4 +1,4 @@
-use Rattle.std.proofs.Common.{◌≡◌, ℕ, ◌≤◌, ◌<◌, ◌+◌, length, ap, sym, ◌∙◌, subst, arith}
+use Rattle.std.proofs.Common.{◌≡◌, ◌<◌, ◌+◌, length, ap, ◌∙◌, arith}
 use Rattle.bl_wal.proofs.EntryLemmas.{there, in_bounds, put_one, user_of, put_of, none_there, entry_is, no_entries}
 use Rattle.bl_wal.proofs.replayed.put_entries.Goals as goal
 

@@ -1,9 +1,9 @@
-use Rattle.std.proofs.Common.{◌≡◌, ℕ, List, true, false, Some, Err, refl, sym, ◌∙◌, ap, subst, arith}
+use Rattle.std.proofs.Common.{List, true, false, refl, sym, ◌∙◌, ap, subst, arith}
 use Rattle.bl_site.specs.Disk.{Disk, folder_of}
-use Rattle.bl_site.specs.Calls.{KeepsDisk}
 use Rattle.bl_entry.specs.declared.key.Entry.{Entry}
-use Rattle.bl_wal.specs.Replay.{Replays, BreaksOff}
+use Rattle.bl_wal.specs.Replay.{Replays}
 use Rattle.bl_wal.proofs.ProgressLemmas.{begins, fed_more, record_taken, ended, broke_off, read_on, progress_so, found_of, wants_of, ended_of, taken_of, corrupt_is, keeps_then, keeps_same}
+use Rattle.bl_wal.proofs.TimeLemmas.{elapses_none, elapses_then, leaves_old}
 use Rattle.bl_wal.proofs.replayed.read_log.Goals as goal
 use Rattle.bl_wal.proofs.replayed.read_log.Goals.{in-Found+in_ok-goes_on-in-Found+else-not-goes_on, in-NeedMore+in_ok-there-in-NeedMore+else-not-there}
 
@@ -12,6 +12,7 @@ steps-init g c = record {
   progress = begins c.args.before g.S.Site.shows (folder_of (g.S.Site.disk c.args.site.now) c.args.name.now) c.start-reader.result c.new-entries.result.items c.start-reader.ensures.open c.start-reader.ensures.reads c.new-entries.ensures.items;
   stays = λ shown. keeps_same g.S.Site.disk g.S.Site.may_be g.S.Site.certain c.args.site.now;
   told = λ shown. refl;
+  time = λ shown. elapses_none g.S.Site.clock g.S.Site.left_since c.args.site.now _;
   later = omega arith;
   tell_faults = refl;
   changes = refl;
@@ -55,6 +56,7 @@ steps-preserved g c =
                 (record_taken c.args.before site.shows file c.batches_join.ensures.join c.steps.offset c.steps.reader c.next.new.self w.in-Found.payload _ _ _ _ c.next.ensures.closed finds t p);
             stays = λ shown. rw w.site-is (c.steps.invariant.stays shown);
             told = λ shown. rw w.site-is (c.steps.invariant.told shown);
+            time = λ shown. rw w.site-is (c.steps.invariant.time shown);
             later = rw w.site-is c.steps.invariant.later;
             tell_faults = rw w.site-is c.steps.invariant.tell_faults;
             changes = rw w.site-is c.steps.invariant.changes;
@@ -69,8 +71,23 @@ steps-preserved g c =
                 (λ shown. ap (λ (d : Disk). folder_of d c.args.name.now) (c.steps.invariant.stays shown).same) (fed.feeds w.if-not-there.false) kept);
             stays = λ shown. rw w.site-is (keeps_then site.disk site.may_be site.certain c.args.site.now c.steps.site w.feed_piece.new.site (c.steps.invariant.stays shown) (fed.stays shown));
             told = λ shown. rw w.site-is (fed.told shown ∙ c.steps.invariant.told shown);
+            time = λ shown. rw w.site-is
+                (elapses_then site.clock site.left_since c.args.site.now c.steps.site w.feed_piece.new.site _ _ (c.steps.invariant.time shown) (fed.time shown)
+                (leaves_old site.disk site.may_be site.certain site.told c.args.site.now c.steps.site (c.steps.invariant.stays shown) (c.steps.invariant.told shown)));
             later = rw w.site-is (omega (arith, fed.later, c.steps.invariant.later));
             tell_faults = rw w.site-is (fed.tell_faults ∙ c.steps.invariant.tell_faults);
             changes = rw w.site-is (fed.changes ∙ c.steps.invariant.changes);
           }
     ]
+
+pub returns-in_err-there-in-NeedMore-clause-time : goal.returns-in_err-there-in-NeedMore-clause-time
+returns-in_err-there-in-NeedMore-clause-time g c = λ shown.
+    let site = g.S.Site in
+    elapses_then site.clock site.left_since c.args.site.now c.steps.site c.feed_piece.new.site _ _ (c.steps.invariant.time shown) (c.in_err-there-in-NeedMore.ensures.time shown)
+    (leaves_old site.disk site.may_be site.certain site.told c.args.site.now c.steps.site (c.steps.invariant.stays shown) (c.steps.invariant.told shown))
+
+pub returns-then-not-there-clause-time : goal.returns-then-not-there-clause-time
+returns-then-not-there-clause-time g c = λ shown.
+    let site = g.S.Site in
+    elapses_then site.clock site.left_since c.args.site.now c.steps.site c.feed_piece.new.site _ _ (c.steps.invariant.time shown) (c.in_ok-there-in-NeedMore.ensures.time shown)
+    (leaves_old site.disk site.may_be site.certain site.told c.args.site.now c.steps.site (c.steps.invariant.stays shown) (c.steps.invariant.told shown))

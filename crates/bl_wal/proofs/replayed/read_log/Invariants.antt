@@ -1,6 +1,6 @@
 use Rattle.std.proofs.Common.{◌≡◌, ◌≤◌}
-use Rattle.bl_site.specs.Disk.{folder_of}
-use Rattle.bl_site.specs.Calls.{KeepsDisk}
+use Rattle.bl_site.specs.Disk.{folder_of, MayLeave}
+use Rattle.bl_site.specs.Calls.{KeepsDisk, Elapses}
 use Rattle.bl_wal.specs.Progress.{Progress}
 use Rattle.bl_wal.proofs.replayed.read_log.Given as goal
 
@@ -11,6 +11,7 @@ invariant-steps g l =
       progress : Progress l.fn.before site.shows (folder_of (site.disk l.fn.site) l.fn.name) l.offset l.reader l.entries.items l.last;
       stays : site.shows → KeepsDisk site.disk site.may_be site.certain l.fn.site l.site;
       told : site.shows → site.told l.site ≡ site.told l.fn.site;
+      time : site.shows → Elapses (site.clock l.fn.site) (site.clock l.site) (site.left_since l.fn.site) (site.left_since l.site) (MayLeave (site.may_be l.fn.site) (site.told l.fn.site));
       later : site.disk_faults l.fn.site ≤ site.disk_faults l.site;
       tell_faults : site.tell_faults l.site ≡ site.tell_faults l.fn.site;
       changes : site.changes l.site ≡ site.changes l.fn.site;

@@ -1,4 +1,4 @@
-use Rattle.std.proofs.Common.{◌≡◌, ◌∙◌, ap, sym, Some}
+use Rattle.std.proofs.Common.{◌≡◌, ◌∙◌, ap, sym}
 use Rattle.bl_site.specs.Disk.{Disk, folder_of}
 use Rattle.bl_wal.specs.LogFile.{log_name}
 use Rattle.bl_wal.proofs.ProgressLemmas.{at_some, reads_of, has_entries}
