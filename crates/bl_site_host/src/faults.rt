@@ -19,11 +19,15 @@ pub(crate) enum Fault {
 
 // Of a call before anything was changed.
 impl From<io::Error> for Fault {
+    ghost use Rattle.std.specs.IoError.{error_kind};
+    ghost use Rattle.bl_site_host.specs.Faults.{fault_of};
+
+    ghost from_gives = { λ e fault. fault ≡ fault_of (error_kind e) };
+
     fn from(e: io::Error) -> Self {
-        if e.kind() == ErrorKind::OutOfMemory {
-            Fault::Memory
-        } else {
-            Fault::Disk
+        match e.kind() {
+            ErrorKind::OutOfMemory => Fault::Memory,
+            _ => Fault::Disk,
         }
     }
 }

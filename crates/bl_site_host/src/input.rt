@@ -1,5 +1,5 @@
 // A reader, as standard input, as a source. It shows no content.
-ghost use Rattle.std.specs.Prelude.{ℕ, []};
+ghost use Rattle.std.specs.Prelude.{◌≡◌, ℕ, []};
 
 use crate::moving::read_some;
 use bl_site::{Source, SourceErr};
@@ -14,8 +14,11 @@ pub struct HostSource<R: Read + Drop> {
 }
 
 impl<R: Read + Drop> HostSource<R> {
-    /// A source over this reader, of which nothing was taken yet.
-    pub fn start(reader: R) -> HostSource<R> {
+    /// A source over this reader, of which nothing was taken yet: its counts are 0.
+    pub fn start(reader: R) -> HostSource<R>
+        ensures taken { ⟦<HostSource<R> as Source>⟧.taken result ≡ 0 }
+        ensures faults { ⟦<HostSource<R> as Source>⟧.faults result ≡ 0 }
+    {
         HostSource {
             reader,
             taken: 0,

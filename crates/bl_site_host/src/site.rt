@@ -1,5 +1,5 @@
 // The current folder and standard output as a site.
-ghost use Rattle.std.specs.Prelude.{[], None, OnOk};
+ghost use Rattle.std.specs.Prelude.{◌≡◌, [], None, OnOk};
 ghost use Rattle.std.specs.Io.KnownBytes.{Appends};
 
 use crate::faults::counted;
@@ -24,8 +24,12 @@ pub struct HostSite<R: Files + Print + AllocGlobal + Clone + Drop> {
 }
 
 impl<R: Files + Print + AllocGlobal + Clone + Drop> HostSite<R> {
-    /// The current folder and standard output, of which nothing was asked yet.
-    pub fn start(rt: R) -> HostSite<R> {
+    /// The current folder and standard output, of which nothing was asked yet: its counts are 0.
+    pub fn start(rt: R) -> HostSite<R>
+        ensures disk_faults { ⟦<HostSite<R> as Site>⟧.disk_faults result ≡ 0 }
+        ensures tell_faults { ⟦<HostSite<R> as Site>⟧.tell_faults result ≡ 0 }
+        ensures changes { ⟦<HostSite<R> as Site>⟧.changes result ≡ 0 }
+    {
         HostSite {
             folder: Folder::new(rt),
             disk_faults: 0,
