@@ -69,3 +69,29 @@ fn a_torn_batch_is_not_replayed(rt: HostRuntime) -> Result<(), Fail> {
     }
     Ok(())
 }
+
+#[test]
+fn a_synced_batch_is_in_every_cut(rt: HostRuntime) -> Result<(), Fail> {
+    let mut site = MemSite::start(rt.alloc())?;
+    let mut wal = Wal::create(rt.alloc(), &mut site, 2).map_err(failed)?;
+    let mut first = Batch::start(rt.alloc());
+    first.put(b"a", b"1")?;
+    wal.append(rt.alloc(), &mut site, 1, &first).map_err(failed)?;
+    wal.sync(&mut site).map_err(failed)?;
+    let mut second = Batch::start(rt.alloc());
+    second.put(b"b", b"2")?;
+    wal.append(rt.alloc(), &mut site, 2, &second).map_err(failed)?;
+    assert!(rt; !wal.failed());
+    for (at, keep, fill, last) in [
+        (3, 0, None, 1),
+        (4, 0, None, 1),
+        (4, 1, Some(0x5A), 1),
+        (4, 23, Some(0x5A), 1),
+        (4, 24, None, 2),
+    ] {
+        let mut cut = site.cut(at, keep, fill)?;
+        let replayed = replay(rt.alloc(), &mut cut, 2, 0).map_err(failed)?;
+        assert_eq!(rt; replayed.last, last, "call {at}, {keep} bytes");
+    }
+    Ok(())
+}
