@@ -1,11 +1,10 @@
 -- A block and its trailer, test by test.
-use Rattle.std.proofs.Common.{◌≡◌, ℕ, ◌+◌, ◌-◌, ◌*◌, ◌^◌, ◌<◌, ◌≤◌, ◌==◌, ◌&&◌, nat_lt, nat_le, nat_eq, not, Bool, true, false, cond, List, [], ◌∷◌, ◌++◌, length, map, take, drop, slice_index, Option, None, Some, refl, sym, ◌∙◌, ap, subst, arith, ◌⊎◌, inl, inr, Result, Ok, Err}
-use Rattle.std.proofs.lemmas.Bool.{cases_lt, le-ltb, lt-ltb, le-leb, lt-leb, eq-eqb, ne_eqb, cond-true, cond-false}
-use Rattle.bl_code.specs.Crc.{crc_byte, crc_after, crc32c, mask_of}
-use Rattle.bl_table.specs.declared.entry.BlockEntry.{BlockEntry}
+use Rattle.std.proofs.Common.{◌≡◌, ℕ, ◌+◌, ◌-◌, ◌*◌, ◌^◌, ◌<◌, ◌≤◌, ◌==◌, ◌&&◌, nat_lt, nat_le, not, Bool, true, false, List, [], ◌∷◌, ◌++◌, length, map, take, drop, Option, None, Some, refl, sym, ◌∙◌, ap, subst, arith, ◌⊎◌, inl, inr, Result, Ok, Err}
+use Rattle.std.proofs.lemmas.Bool.{cases_lt, cases_eq, le-ltb, lt-ltb, le-leb, lt-leb, eq-eqb, ne_eqb, cond-true, cond-false}
+use Rattle.bl_code.specs.Crc.{crc_byte, crc_after}
 use Rattle.bl_table.specs.declared.handle.Handle.{Handle}
-use Rattle.bl_table.specs.declared.fault.TableRule.TheVariants.{Length, Kind, Crc, Restart}
-use Rattle.bl_table.specs.Faults.{Fault, Answers, expect, ◌or◌, unless}
+use Rattle.bl_table.specs.declared.fault.TableRule.TheVariants.{Length, Restart}
+use Rattle.bl_table.specs.Faults.{Fault, Answers, ◌or◌, unless}
 use Rattle.std.specs.Result.{IsErrAnd}
 use Rattle.bl_table.specs.declared.fault.BadTable.{BadTable}
 use Rattle.bl_table.specs.declared.fault.BadTable.TheVariants.{OutOfMemory}
@@ -51,9 +50,9 @@ not_whole a b c d (inl n) = rw (ne_eqb a b n) refl
 not_whole a b c d (inr f) = elim (a == b) as (λ t. (t && nat_lt c d) ≡ false) [ true ↦ le-ltb c d f | false ↦ refl ]
 
 -- the bytes don't have the length that they are to have
-pub read_unfit : (bytes : List ℕ) (h : Handle) → (length bytes ≡ h.size + 5 → ⊥) ⊎ (2 ^ 64 ≤ h.offset + h.size + 5) → read_block bytes h ≡ Err (Length, h.offset)
+pub block_unfit : (bytes : List ℕ) (h : Handle) → (length bytes ≡ h.size + 5 → ⊥) ⊎ (2 ^ 64 ≤ h.offset + h.size + 5) → block_at h bytes ≡ faulty (Length, h.offset)
 unfolding block_at
-read_unfit bytes h bad = ap (λ (b : Contents). unless b.fault (map (entry_of h.offset) b.cells)) (cond-true _ _ _ (ap not (not_whole (length bytes) (h.size + 5) (h.offset + h.size + 5) (2 ^ 64) bad)))
+block_unfit bytes h bad = cond-true _ _ _ (ap not (not_whole (length bytes) (h.size + 5) (h.offset + h.size + 5) (2 ^ 64) bad))
 
 pub block_whole : (bytes : List ℕ) (h : Handle) (block : Contents) → length bytes ≡ h.size + 5 → h.offset + h.size + 5 < 2 ^ 64 → block_in h.offset (take h.size bytes) ≡ block
     → block_at h bytes ≡ record block { fault = block.fault or trailer_fault (h.offset + h.size) (take h.size bytes) (drop h.size bytes) }
@@ -62,37 +61,49 @@ block_whole bytes h block whole fits e =
     cond-false _ _ _ (ap not (is_whole (length bytes) (h.size + 5) (h.offset + h.size + 5) (2 ^ 64) whole fits))
     ∙ ap (λ (b : Contents). record b { fault = b.fault or trailer_fault (h.offset + h.size) (take h.size bytes) (drop h.size bytes) }) e
 
-pub read_whole : (bytes : List ℕ) (h : Handle) (block : Contents) (fault : Option Fault) → length bytes ≡ h.size + 5 → h.offset + h.size + 5 < 2 ^ 64 → block_in h.offset (take h.size bytes) ≡ block
-    → (block.fault or trailer_fault (h.offset + h.size) (take h.size bytes) (drop h.size bytes)) ≡ fault → read_block bytes h ≡ unless fault (map (entry_of h.offset) block.cells)
-read_whole bytes h block fault whole fits e f =
-    ap (λ (b : Contents). unless b.fault (map (entry_of h.offset) b.cells)) (block_whole bytes h block whole fits e)
-    ∙ ap (λ x. unless x (map (entry_of h.offset) block.cells)) f
+-- the fault of the block, or of its trailer
+pub block_faulty : (bytes : List ℕ) (h : Handle) (fault : Fault) → length bytes ≡ h.size + 5 → h.offset + h.size + 5 < 2 ^ 64 → Some fault ≡ (block_in h.offset (take h.size bytes)).fault → Some fault ≡ (block_at h bytes).fault
+block_faulty bytes h fault whole fits e =
+    ap (λ f. f or trailer_fault (h.offset + h.size) (take h.size bytes) (drop h.size bytes)) e
+    ∙ ap (λ (b : Contents). b.fault) (sym (block_whole bytes h (block_in h.offset (take h.size bytes)) whole fits refl))
 
--- a fault of the block, or of its trailer
-pub read_faulty : (bytes : List ℕ) (h : Handle) (fault : Fault) → length bytes ≡ h.size + 5 → h.offset + h.size + 5 < 2 ^ 64 → Some fault ≡ (block_in h.offset (take h.size bytes)).fault → read_block bytes h ≡ Err fault
-read_faulty bytes h fault whole fits e =
-    read_whole bytes h (block_in h.offset (take h.size bytes)) (Some fault) whole fits refl (ap (λ f. f or trailer_fault (h.offset + h.size) (take h.size bytes) (drop h.size bytes)) (sym e))
+pub trailer_faulty : (bytes : List ℕ) (h : Handle) (fault : Option Fault) → length bytes ≡ h.size + 5 → h.offset + h.size + 5 < 2 ^ 64 → None ≡ (block_in h.offset (take h.size bytes)).fault
+    → fault ≡ trailer_fault (h.offset + h.size) (take h.size bytes) (drop h.size bytes) → fault ≡ (block_at h bytes).fault
+trailer_faulty bytes h fault whole fits e t =
+    t ∙ ap (λ f. f or trailer_fault (h.offset + h.size) (take h.size bytes) (drop h.size bytes)) e
+    ∙ ap (λ (b : Contents). b.fault) (sym (block_whole bytes h (block_in h.offset (take h.size bytes)) whole fits refl))
 
-pub read_kind : (bytes : List ℕ) (h : Handle) → length bytes ≡ h.size + 5 → h.offset + h.size + 5 < 2 ^ 64 → None ≡ (block_in h.offset (take h.size bytes)).fault → (slice_index (drop h.size bytes) 0 ≡ 0 → ⊥)
-    → read_block bytes h ≡ Err (Kind, h.offset + h.size)
-read_kind bytes h whole fits e other =
-    read_whole bytes h (block_in h.offset (take h.size bytes)) (Some (Kind, h.offset + h.size)) whole fits refl
-    (ap (λ f. f or trailer_fault (h.offset + h.size) (take h.size bytes) (drop h.size bytes)) (sym e) ∙ rw (ne_eqb (slice_index (drop h.size bytes) 0) 0 other) refl)
+pub read_fault : (bytes : List ℕ) (h : Handle) (fault : Fault) → Some fault ≡ (block_at h bytes).fault → read_block bytes h ≡ Err fault
+read_fault bytes h fault e = ap (λ f. unless f (map (entry_of h.offset) (block_at h bytes).cells)) (sym e)
 
-pub read_crc : (bytes : List ℕ) (h : Handle) (sum made : ℕ) → length bytes ≡ h.size + 5 → h.offset + h.size + 5 < 2 ^ 64 → None ≡ (block_in h.offset (take h.size bytes)).fault → slice_index (drop h.size bytes) 0 ≡ 0
-    → sum ≡ number_at (drop h.size bytes) 1 → made ≡ mask_of (crc32c (take h.size bytes ++ slice_index (drop h.size bytes) 0 ∷ [])) → (sum ≡ made → ⊥) → read_block bytes h ≡ Err (Crc, h.offset + h.size + 1)
-read_crc bytes h sum made whole fits e kind es em other =
-    let n : nat_eq (number_at (drop h.size bytes) 1) (mask_of (crc32c (take h.size bytes ++ slice_index (drop h.size bytes) 0 ∷ []))) ≡ false = ne_eqb _ _ (λ q. other (es ∙ q ∙ sym em)) in
-    read_whole bytes h (block_in h.offset (take h.size bytes)) (Some (Crc, h.offset + h.size + 1)) whole fits refl
-    (ap (λ f. f or trailer_fault (h.offset + h.size) (take h.size bytes) (drop h.size bytes)) (sym e) ∙ rw (eq-eqb (slice_index (drop h.size bytes) 0) 0 kind, n) refl)
+-- a block without a fault
+pub record IsGood (bytes : List ℕ) (h : Handle) : Type 0 where
+  pub whole : length bytes ≡ h.size + 5
+  pub fits : h.offset + h.size + 5 < 2 ^ 64
+  pub good : None ≡ (block_in h.offset (take h.size bytes)).fault
+  pub read : read_block bytes h ≡ Ok (map (entry_of h.offset) (block_in h.offset (take h.size bytes)).cells)
 
-pub read_good : (bytes : List ℕ) (h : Handle) (at count sum made : ℕ) → length bytes ≡ h.size + 5 → h.offset + h.size + 5 < 2 ^ 64 → None ≡ (block_in h.offset (take h.size bytes)).fault → slice_index (drop h.size bytes) 0 ≡ 0
-    → sum ≡ number_at (drop h.size bytes) 1 → made ≡ mask_of (crc32c (take h.size bytes ++ slice_index (drop h.size bytes) 0 ∷ [])) → sum ≡ made
-    → read_block bytes h ≡ Ok (map (entry_of h.offset) (block_in h.offset (take h.size bytes)).cells)
-read_good bytes h at count sum made whole fits e kind es em same =
-    let n : nat_eq (number_at (drop h.size bytes) 1) (mask_of (crc32c (take h.size bytes ++ slice_index (drop h.size bytes) 0 ∷ []))) ≡ true = eq-eqb _ _ (sym es ∙ same ∙ em) in
-    read_whole bytes h (block_in h.offset (take h.size bytes)) None whole fits refl
-    (ap (λ f. f or trailer_fault (h.offset + h.size) (take h.size bytes) (drop h.size bytes)) (sym e) ∙ rw (eq-eqb (slice_index (drop h.size bytes) 0) 0 kind, n) refl)
+left_none : (a b : Option Fault) → None ≡ (a or b) → None ≡ a
+left_none None b e = refl
+left_none (Some f) b e = absurd cc
+
+pub is_good : (bytes : List ℕ) (h : Handle) → None ≡ (block_at h bytes).fault → IsGood bytes h
+is_good bytes h e =
+    let unfit = λ (bad : (length bytes ≡ h.size + 5 → ⊥) ⊎ (2 ^ 64 ≤ h.offset + h.size + 5)). let f = e ∙ ap (λ (b : Contents). b.fault) (block_unfit bytes h bad) in let no : ⊥ = cc in no in
+    elim (cases_eq (length bytes) (h.size + 5)) [
+      | inr other ↦ absurd (unfit (inl other))
+      | inl whole ↦ elim (cases_lt (h.offset + h.size + 5) (2 ^ 64)) [
+        | inr much ↦ absurd (unfit (inr much))
+        | inl fits ↦
+            let is = block_whole bytes h (block_in h.offset (take h.size bytes)) whole fits refl in
+            record {
+              whole = whole;
+              fits = fits;
+              good = left_none _ _ (e ∙ ap (λ (b : Contents). b.fault) is);
+              read = ap (λ f. unless f (map (entry_of h.offset) (block_at h bytes).cells)) (sym e) ∙ ap (λ (b : Contents). Ok (map (entry_of h.offset) b.cells)) is;
+            }
+      ]
+    ]
 
 -- a block without a fault has its restarts
 pub has_count : (offset at count : ℕ) (bytes : List ℕ) → None ≡ (block_in offset bytes).fault → at ≡ length bytes - 4 → count ≡ number_at bytes at → (4 ≤ length bytes) × (0 < count) × (4 * count ≤ at)

@@ -1,10 +1,10 @@
 -- A table that grows by an entry, and its end.
-use Rattle.std.proofs.Common.{◌≡◌, ℕ, zero, suc, ◌+◌, ◌-◌, ◌*◌, ◌/◌, ◌%◌, ◌^◌, ◌<◌, ◌≤◌, nat_lt, nat_le, Bool, true, false, cond, List, [], ◌∷◌, ◌++◌, length, length-append, take, drop, flat_map, refl, sym, ◌∙◌, ap, subst, arith, append_assoc, append-nil, add-zero}
-use Rattle.std.proofs.lemmas.Bool.{le-leb, lt-leb, cond-true, cond-false}
-use Rattle.bl_code.specs.Numbers.{varint, varint64, fixed32}
-use Rattle.bl_table.specs.Spelling.{Item, Cuts, cut, behind, and_last, blocks_of, data_bytes, handle, last_key, index_item, index_from, closing, footer, is_complete, block, with_trailer, closed, or_zero, entries_from, restarts_from, table}
+use Rattle.std.proofs.Common.{◌≡◌, ℕ, zero, suc, ◌+◌, ◌-◌, ◌*◌, ◌/◌, ◌%◌, ◌^◌, ◌<◌, ◌≤◌, nat_lt, Bool, true, false, cond, List, [], ◌∷◌, ◌++◌, length, length-append, refl, sym, ◌∙◌, ap, subst, arith, append_assoc, append-nil, add-zero}
+use Rattle.std.proofs.lemmas.Bool.{le-leb, lt-leb}
+use Rattle.bl_code.specs.Numbers.{varint, varint64}
+use Rattle.bl_table.specs.Spelling.{Item, Cuts, cut, behind, and_last, blocks_of, data_bytes, handle, index_item, index_from, closing, footer, is_complete, block, with_trailer, closed, entries_from, restarts_from, table}
 use Rattle.bl_table.specs.Building.{Writing, Holds, written, block_of, Building, HasAdded, item, nothing}
-use Rattle.bl_table.proofs.SpellLemmas.{holds_none, holds_more, last_key-push, block_is, block_size, some_bytes, holds_nothing, no_bytes}
+use Rattle.bl_table.proofs.SpellLemmas.{holds_none, holds_more, block_is, block_size, some_bytes, holds_nothing, no_bytes}
 
 pub starts : (b i : Writing) → b ≡ nothing → i ≡ nothing → HasAdded [] [] (record { block = b; index = i; offset = 0 })
 unfolding index_from

@@ -1,5 +1,5 @@
 -- An entry, by the readings of its parts.
-use Rattle.std.proofs.Common.{◌≡◌, ℕ, if◌then◌else◌, ◌<◌, ◌≤◌, nat_le, List, ◌++◌, length, take, Option, None, Some, sym, ◌∙◌, ap, arith}
+use Rattle.std.proofs.Common.{◌≡◌, ℕ, if◌then◌else◌, ◌<◌, ◌≤◌, nat_le, List, ◌++◌, length, take, None, Some, sym, ◌∙◌, ap}
 use Rattle.std.specs.Prelude.{option_and_then}
 use Rattle.std.proofs.lemmas.Bool.{le-leb, lt-leb, cond-true, cond-false}
 use Rattle.bl_code.specs.Reading.{Input, Read, take_bytes}

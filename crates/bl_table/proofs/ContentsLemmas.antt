@@ -1,13 +1,10 @@
 -- The entries of a block from left to right, and its first fault.
-use Rattle.std.proofs.Common.{◌≡◌, ℕ, zero, suc, ◌+◌, ◌-◌, ◌*◌, ◌<◌, ◌≤◌, ◌==◌, ◌&&◌, nat_lt, nat_le, nat_eq, not, Bool, true, false, cond, List, [], ◌∷◌, ◌++◌, length, take, drop, Option, None, Some, refl, sym, ◌∙◌, ap, subst, arith, ◌⊎◌, inl, inr}
-use Rattle.std.proofs.lemmas.Bool.{eq-eqb, le-ltb, lt-ltb, le-leb, lt-leb, cond-true, cond-false}
-use Rattle.std.specs.Ordering.{is_lt}
-use Rattle.bl_code.specs.Order.{key_order}
+use Rattle.std.proofs.Common.{◌≡◌, ℕ, zero, suc, ◌+◌, ◌-◌, ◌<◌, ◌≤◌, ◌&&◌, nat_lt, nat_eq, Bool, true, false, List, [], ◌∷◌, length, Option, None, Some, refl, sym, ◌∙◌, ap, arith, ◌⊎◌, inl, inr}
+use Rattle.std.proofs.lemmas.Bool.{eq-eqb, le-ltb, lt-ltb, le-leb, lt-leb, cond-false}
 use Rattle.bl_code.specs.Reading.{Input}
-use Rattle.bl_table.specs.declared.fault.TableRule.TheVariants.{Entry, Order, Restart}
-use Rattle.bl_table.specs.Faults.{Fault, expect, ◌or◌}
-use Rattle.bl_table.specs.Blocks.{Cell, Cells, cell_at, cells_at, and_cell, nothing_left, stands_behind, entry_fault, stop_fault, restarts_left}
-use Rattle.bl_table.specs.Steps.{rest_fault, left_fault}
+use Rattle.bl_table.specs.declared.fault.TableRule.TheVariants.{Entry, Order}
+use Rattle.bl_table.specs.Blocks.{Cell, Cells, cell_at, cells_at, and_cell, nothing_left, stands_behind, entry_fault, restarts_left}
+use Rattle.bl_table.specs.Steps.{rest_fault}
 
 pub cells_end : (n : ℕ) (before : List ℕ) (input : Input) → length input.left ≡ 0 → cells_at n before input ≡ nothing_left
 unfolding cells_at

@@ -6,4 +6,6 @@ mod BlockLemmas
 mod WalkLemmas
 mod SpellLemmas
 mod BuildLemmas
+mod WholeLemmas
+mod ReadLemmas
 mod Rows

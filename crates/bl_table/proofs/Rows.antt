@@ -1,7 +1,7 @@
 -- The definitions at small tables, against bytes and numbers typed in.
 use Rattle.std.proofs.Common.{◌≡◌, [], ◌∷◌, length, refl, take, drop, Ok, Err}
 use Rattle.std.specs.Prelude.{slice_set, replicate}
-use Rattle.bl_code.specs.Numbers.{fixed32, fixed64, varint, varint64}
+use Rattle.bl_code.specs.Numbers.{fixed32, fixed64, varint}
 use Rattle.bl_code.specs.Crc.{crc_bits, crc_after, mask_of}
 use Rattle.bl_code.specs.Reading.{take_bytes, varint_in}
 use Rattle.bl_table.specs.declared.fault.TableRule.TheVariants as rule

@@ -1,12 +1,11 @@
 -- How far a scan has come in a block.
-use Rattle.std.proofs.Common.{◌≡◌, ℕ, zero, suc, ◌+◌, ◌-◌, ◌*◌, ◌<◌, ◌≤◌, ◌==◌, nat_lt, nat_eq, Bool, true, false, cond, List, [], ◌∷◌, length, length-drop, take, drop, Option, None, Some, refl, sym, ◌∙◌, ap, subst, arith, ◌⊎◌, inl, inr}
-use Rattle.std.proofs.lemmas.Bool.{le-ltb, lt-ltb, eq-eqb, ne_eqb, cond-true, cond-false}
+use Rattle.std.proofs.Common.{◌≡◌, ℕ, zero, suc, ◌+◌, ◌-◌, ◌*◌, ◌<◌, ◌≤◌, nat_lt, nat_eq, true, false, List, [], ◌∷◌, length, length-drop, take, drop, None, Some, refl, sym, ◌∙◌, ap, subst, arith, ◌⊎◌, inl, inr}
+use Rattle.std.proofs.lemmas.Bool.{le-ltb, eq-eqb, ne_eqb, cond-false}
 use Rattle.std.proofs.lemmas.List.{drop-drop, drop_all}
 use Rattle.std.specs.Int.{w32, from_le_bytes}
 use Rattle.bl_code.specs.Reading.{Input, from_start}
 use Rattle.bl_table.specs.declared.fault.TableRule.TheVariants.{Entry, Order, Restart}
-use Rattle.bl_table.specs.Faults.{Fault, expect, ◌or◌}
-use Rattle.bl_table.specs.Blocks.{number_at, Cell, Cells, cell_at, cells_at, cells_in, and_cell, nothing_left, numbers_in, stands_behind, entry_fault, stop_fault, restarts_left, contents}
+use Rattle.bl_table.specs.Blocks.{number_at, Cell, cell_at, cells_at, and_cell, numbers_in, stands_behind, entry_fault, restarts_left, contents}
 use Rattle.bl_table.specs.Steps.{Moves, rest_fault, left_fault, before_at}
 use Rattle.bl_table.proofs.ContentsLemmas.{cells_end, cells_stop, cells_more, passes_restart, no_restarts, other_entry, stops, is_short, is_misplaced, goes_on}
 

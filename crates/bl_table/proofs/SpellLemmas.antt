@@ -1,12 +1,12 @@
 -- What the calls that write a block leave.
-use Rattle.std.proofs.Common.{◌≡◌, ◌≢◌, ℕ, zero, suc, ◌+◌, ◌-◌, ◌*◌, ◌/◌, ◌%◌, ◌^◌, ◌<◌, ◌≤◌, ◌==◌, ◌&&◌, nat_lt, nat_le, nat_eq, Bool, true, false, cond, List, [], ◌∷◌, ◌++◌, length, length-append, take, drop, flat_map, refl, sym, ◌∙◌, ap, subst, arith, append_assoc, append-nil, ◌⊎◌, inl, inr}
-use Rattle.std.proofs.lemmas.Bool.{ltb-true, cases_lt, le-ltb, lt-ltb, eq-eqb, ne_eqb, cond-true, cond-false}
-use Rattle.std.proofs.lemmas.List.{drop_all, take_all}
+use Rattle.std.proofs.Common.{◌≡◌, ℕ, suc, ◌+◌, ◌-◌, ◌*◌, ◌/◌, ◌%◌, ◌^◌, ◌<◌, ◌≤◌, ◌&&◌, nat_lt, nat_eq, Bool, true, false, cond, List, [], ◌∷◌, ◌++◌, length, length-append, drop, flat_map, refl, sym, ◌∙◌, ap, subst, arith, append_assoc, append-nil, ◌⊎◌, inl, inr}
+use Rattle.std.proofs.lemmas.Bool.{ltb-true}
+use Rattle.std.proofs.lemmas.List.{drop_all}
 use Rattle.std.proofs.Math.Seq.{drop-append_seam}
 use Rattle.bl_code.specs.Numbers.{varint, varint32, fixed32}
 use Rattle.bl_code.specs.Crc.{crc32c, mask_of}
-use Rattle.bl_table.specs.Spelling.{Item, Cuts, cut, behind, and_last, blocks_of, data_bytes, handle, last_key, index_item, index_from, closing, footer, is_complete, block, table, common, entry, entry_at, entries_from, restarts_from, restart_here, is_restart, shared_at, or_zero, closed, with_trailer}
-use Rattle.bl_table.specs.Building.{Writing, Holds, written, block_of, Building, HasAdded, item, nothing}
+use Rattle.bl_table.specs.Spelling.{Item, last_key, block, common, entry, entry_at, entries_from, restarts_from, restart_here, is_restart, shared_at, or_zero, closed, with_trailer}
+use Rattle.bl_table.specs.Building.{Writing, Holds, written, block_of}
 
 common_none : (a : List ℕ) → common a [] ≡ 0
 common_none [] = refl

@@ -1,14 +1,13 @@
 -- Going over the entries of a block that was found good.
-use Rattle.std.proofs.Common.{if◌then◌else◌, ◌≡◌, ℕ, zero, suc, ◌+◌, ◌-◌, ◌<◌, ◌≤◌, nat_le, nat_eq, not, Bool, true, false, cond, List, [], ◌∷◌, length, length-drop, map, take, drop, Option, None, Some, refl, sym, ◌∙◌, ap, subst, arith, ◌⊎◌, inl, inr}
+use Rattle.std.proofs.Common.{if◌then◌else◌, ◌≡◌, ℕ, ◌+◌, ◌-◌, ◌<◌, ◌≤◌, nat_le, nat_eq, not, Bool, true, false, cond, List, [], ◌∷◌, length, length-drop, map, take, drop, Option, None, Some, refl, sym, ◌∙◌, ap, subst, arith}
 use Rattle.std.specs.Ordering.{is_lt}
-use Rattle.std.specs.declared.cmp.Ordering.{Ordering}
-use Rattle.std.proofs.lemmas.Bool.{leb-true, cases_lt, le-leb, lt-leb, cond-true, cond-false}
+use Rattle.std.proofs.lemmas.Bool.{leb-true, cond-true, cond-false}
 use Rattle.bl_code.specs.Order.{key_order}
 use Rattle.bl_code.specs.Reading.{Input, from_start}
 use Rattle.bl_table.specs.declared.entry.BlockEntry.{BlockEntry}
 use Rattle.bl_table.specs.declared.fault.TableRule.TheVariants.{Entry, Order}
 use Rattle.bl_table.specs.Faults.{Fault, ◌or◌}
-use Rattle.bl_table.specs.Blocks.{stands_behind, Cell, Cells, cell_at, cells_at, cells_in, and_cell, entry_fault, stop_fault, restart_fault, contents, numbers_in, entry_of, first_from, head_entry, next_after}
+use Rattle.bl_table.specs.Blocks.{stands_behind, Cell, Cells, cell_at, cells_at, cells_in, entry_fault, stop_fault, restart_fault, contents, numbers_in, entry_of, first_from, head_entry, next_after}
 use Rattle.bl_table.specs.Steps.{Moves}
 use Rattle.bl_table.proofs.ContentsLemmas.{cells_end, cells_stop, cells_more}
 

@@ -1,6 +1,6 @@
 -- What a writer of tables holds.
-use Rattle.std.specs.Prelude.{◌≡◌, ℕ, ◌+◌, ◌%◌, ◌^◌, List, [], ◌∷◌, ◌++◌, length}
-use Rattle.bl_table.specs.Spelling.{Item, entry_at, restart_here, entries_from, restarts_from, or_zero, closed, block, Cuts, cut, behind, data_bytes, last_key, index_from}
+use Rattle.std.specs.Prelude.{◌≡◌, ℕ, ◌+◌, ◌%◌, ◌^◌, List, [], ◌++◌, length}
+use Rattle.bl_table.specs.Spelling.{Item, entry_at, restart_here, entries_from, restarts_from, or_zero, closed, cut, behind, data_bytes, last_key, index_from}
 
 -- bytes that more bytes may follow
 pub record Grows (old new : List ℕ) : Type 0 where

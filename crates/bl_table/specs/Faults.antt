@@ -1,5 +1,5 @@
 -- Faults of tables, and which of several is answered.
-use Rattle.std.specs.Prelude.{◌≡◌, ℕ, ◌==◌, ◌&&◌, ◌||◌, nat_lt, Bool, List, [], ◌∷◌, Option, None, Some, Result, Ok, Err, if◌then◌else◌}
+use Rattle.std.specs.Prelude.{◌≡◌, ℕ, ◌==◌, ◌&&◌, ◌||◌, nat_lt, Bool, Option, None, Some, Result, Ok, Err, if◌then◌else◌}
 use Rattle.bl_table.specs.declared.fault.TableRule.{TableRule}
 use Rattle.bl_table.specs.declared.fault.TableRule.TheVariants.{Length, Magic, Handle, Kind, Crc, Restart, Entry, Order}
 use Rattle.bl_table.specs.declared.fault.BadTable.{BadTable}
@@ -24,14 +24,12 @@ rank Order = 7
 abbrev pub comes_first : Fault → Fault → Bool
 comes_first a b = nat_lt a.1 b.1 || ((a.1 == b.1) && nat_lt (rank a.0) (rank b.0))
 
-abbrev pub first_of_two : Fault → Option Fault → Fault
-first_of_two a None = a
-first_of_two a (Some b) = if comes_first b a then b else a
-
--- the first fault of all
-abbrev pub first_fault : List Fault → Option Fault
-first_fault [] = None
-first_fault (a ∷ more) = Some (first_of_two a (first_fault more))
+-- the first of two faults, where there are any
+infixr 10 ◌and◌
+abbrev pub ◌and◌ : Option Fault → Option Fault → Option Fault
+None and b = b
+(Some a) and None = Some a
+(Some a) and (Some b) = if comes_first b a then Some b else Some a
 
 -- a fault, unless the test holds
 abbrev pub expect : Bool → TableRule → ℕ → Option Fault

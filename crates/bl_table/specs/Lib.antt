@@ -6,4 +6,6 @@ pub mod Spelling
 pub mod Building
 pub mod Marks
 pub mod Table
+pub mod Whole
+pub mod Wholes
 pub mod Handles

@@ -1,5 +1,5 @@
 -- What a mark takes back.
-use Rattle.std.specs.Prelude.{◌≡◌, ℕ, take, length}
+use Rattle.std.specs.Prelude.{◌≡◌, take, length}
 use Rattle.bl_table.specs.declared.mark.Mark.{Mark}
 use Rattle.bl_table.specs.Building.{Writing}
 

@@ -2,7 +2,6 @@
 use Rattle.std.specs.Prelude.{ℕ, suc, ◌+◌, ◌-◌, ◌%◌, ◌^◌, ◌==◌, ◌&&◌, nat_lt, nat_le, Bool, true, false, List, [], ◌∷◌, ◌++◌, length, drop, replicate, flat_map, if◌then◌else◌}
 use Rattle.bl_code.specs.Numbers.{fixed32, fixed64, varint32, varint64}
 use Rattle.bl_code.specs.Crc.{crc32c, mask_of}
-use Rattle.bl_table.specs.declared.handle.Handle.{Handle}
 
 -- the bytes of a key and of its value
 pub record Item : Type 0 where

@@ -1,6 +1,6 @@
 -- How far the code has come in a block.
-use Rattle.std.specs.Prelude.{◌≡◌, ℕ, ◌+◌, ◌-◌, ◌*◌, ◌==◌, ◌≤◌, List, length, take, drop, if◌then◌else◌, Option, None, Some}
-use Rattle.bl_code.specs.Reading.{Input, Read}
+use Rattle.std.specs.Prelude.{◌≡◌, ℕ, ◌+◌, ◌-◌, ◌*◌, ◌==◌, ◌≤◌, List, length, drop, if◌then◌else◌, Option, None, Some}
+use Rattle.bl_code.specs.Reading.{Input}
 use Rattle.bl_table.specs.declared.fault.TableRule.TheVariants.{Restart}
 use Rattle.bl_table.specs.Faults.{Fault, expect, ◌or◌}
 use Rattle.bl_table.specs.Blocks.{Cell, Cells, Head, head_at, cell_at, entry_fault, stop_fault, restarts_left}

@@ -3,9 +3,10 @@
 ghost use Rattle.std.specs.Prelude.{◌≡◌, ◌+◌, ◌^◌, ◌<◌, ◌≤◌, ◌++◌, ◌∷◌, [], length, IfOk};
 ghost use Rattle.bl_code.specs.Crc.{crc32c, mask_of};
 ghost use Rattle.bl_table.specs.Faults.{Answers};
-ghost use Rattle.bl_table.specs.Blocks.{read_block, first_from, next_after};
+ghost use Rattle.bl_table.specs.Steps.{fault_of};
+ghost use Rattle.bl_table.specs.Blocks.{block_at, trailer_fault as fault_of_trailer, read_block, first_from, next_after};
 
-use crate::check::{block_fault, is_before, number_at};
+use crate::check::{Fault, block_fault, is_before, number_at};
 use crate::entry::{BlockEntry, next_entry};
 use crate::fault::{BadTable, TableErr, TableRule};
 use crate::handle::Handle;
@@ -49,26 +50,59 @@ pub(crate) fn sum_of(block: &[u8], kind: u8) -> u32
     mask(crc.value())
 }
 
+// The first fault of the trailer of a block, which begins at a place.
+fn trailer_fault(block: &[u8], trailer: &[u8], place: u64) -> Option<Fault>
+    requires trailer { length trailer.now ≡ 5 }
+    requires place { place + 5 < 2 ^ 64 }
+    ensures { fault_of result ≡ fault_of_trailer place block.now trailer.now }
+{
+    if trailer[0] != 0 {
+        return Some(Fault {
+            rule: TableRule::Kind,
+            place,
+        });
+    }
+    if number_at(trailer, 1) != sum_of(block, trailer[0]) {
+        return Some(Fault {
+            rule: TableRule::Crc,
+            place: place + 1,
+        });
+    }
+    None
+}
+
+/// The first fault of a block with its trailer.
+pub(crate) fn whole_fault(
+    alloc: Global,
+    bytes: &[u8],
+    handle: Handle,
+) -> Result<Option<Fault>, TableErr>
+    ensures { IfOk result (λ f. fault_of f ≡ (block_at handle bytes.now).fault) }
+{
+    let size = bytes.len() as u64;
+    if size < TRAILER || size - TRAILER != handle.size || handle.offset > u64::MAX - size {
+        return Ok(Some(Fault {
+            rule: TableRule::Length,
+            place: handle.offset,
+        }));
+    }
+    let (block, trailer) = bytes.split_at(handle.size as usize);
+    if let Some(fault) = block_fault(alloc, block, handle.offset)? {
+        return Ok(Some(fault));
+    }
+    Ok(trailer_fault(block, trailer, handle.offset + handle.size))
+}
+
 impl Block {
     /// Reads a block with its trailer. `Length` at the handle's offset where the bytes are not so many as
     /// the handle says and a trailer has, or would pass 2^64.
     pub fn parse(alloc: Global, bytes: &[u8], handle: Handle) -> Result<Block, BadTable>
         ensures { Answers result (read_block bytes.now handle) }
     {
-        let size = bytes.len() as u64;
-        if size < TRAILER || size - TRAILER != handle.size || handle.offset > u64::MAX - size {
-            return Err(BadTable::At(TableRule::Length, handle.offset));
-        }
-        let (block, trailer) = bytes.split_at(handle.size as usize);
-        if let Some(fault) = block_fault(alloc, block, handle.offset)? {
+        if let Some(fault) = whole_fault(alloc, bytes, handle)? {
             return Err(BadTable::At(fault.rule, fault.place));
         }
-        if trailer[0] != 0 {
-            return Err(BadTable::At(TableRule::Kind, handle.offset + handle.size));
-        }
-        if number_at(trailer, 1) != sum_of(block, trailer[0]) {
-            return Err(BadTable::At(TableRule::Crc, handle.offset + handle.size + 1));
-        }
+        let block = &bytes[..handle.size as usize];
         let at = block.len() - 4;
         let count = number_at(block, at) as usize;
         Ok(Block {

@@ -3,6 +3,7 @@
 ghost use Rattle.std.specs.Prelude.{◌≡◌, ◌+◌, ◌*◌, ◌^◌, ◌<◌, ◌≤◌, ◌∷◌, List, length, drop, IfOk};
 ghost use Rattle.std.specs.Ordering.{is_lt};
 ghost use Rattle.bl_code.specs.Order.{key_order as order_of_keys};
+ghost use Rattle.bl_table.specs.Faults.{rank as rank_of, ◌and◌};
 ghost use Rattle.bl_table.specs.Blocks.{Cell, block_in, contents, number_at as number_in, numbers_in, restarts_left, stands_behind as is_behind};
 ghost use Rattle.bl_table.specs.Steps.{fault_of, before_at};
 ghost use Rattle.bl_table.specs.Scans.{Scans};
@@ -19,6 +20,38 @@ use std::mem;
 pub(crate) struct Fault {
     pub rule: TableRule,
     pub place: u64,
+}
+
+// Where a rule stands in the order in which they are listed.
+fn rank(rule: TableRule) -> u8
+    ensures { result ≡ rank_of rule }
+{
+    match rule {
+        TableRule::Length => 0,
+        TableRule::Magic => 1,
+        TableRule::Handle => 2,
+        TableRule::Kind => 3,
+        TableRule::Crc => 4,
+        TableRule::Restart => 5,
+        TableRule::Entry => 6,
+        TableRule::Order => 7,
+    }
+}
+
+/// The first of two faults, where there are any: by their places, and at one place by their rules.
+pub(crate) fn first_of(a: Option<Fault>, b: Option<Fault>) -> Option<Fault>
+    ensures { fault_of result ≡ (fault_of a and fault_of b) }
+{
+    let (Some(first), Some(second)) = (a, b) else {
+        return a.or(b);
+    };
+    if second.place < first.place
+        || second.place == first.place && rank(second.rule) < rank(first.rule)
+    {
+        b
+    } else {
+        a
+    }
 }
 
 // The little-endian number of four bytes at a place.

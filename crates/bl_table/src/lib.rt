@@ -12,6 +12,7 @@ mod mark;
 mod spell;
 #[cfg(test)]
 mod tests;
+mod whole;
 mod writer;
 
 pub use block::Block;
@@ -20,3 +21,4 @@ pub use entry::BlockEntry;
 pub use fault::{BadTable, TableErr, TableRule};
 pub use footer::read_footer;
 pub use handle::Handle;
+pub use whole::read_table;

@@ -1,4 +1,4 @@
-use crate::{BadTable, Block, Handle, TableBuilder, TableErr, TableRule, read_footer};
+use crate::{BadTable, Block, Handle, TableBuilder, TableErr, TableRule, read_footer, read_table};
 use std::alloc::Global;
 use std::test::Fail;
 
@@ -104,5 +104,28 @@ fn each_complete_block_is_read(rt: HostRuntime) -> Result<(), Fail> {
     }
     assert_eq!(rt; blocks, 1);
     assert!(rt; builder.size() >= given);
+    Ok(())
+}
+
+#[test]
+fn a_table_is_read_whole(rt: HostRuntime) -> Result<(), Fail> {
+    let mut table = one_entry(rt.alloc())?;
+    let entries = read_table(rt.alloc(), &table).ok().ok_or("refused")?;
+    assert_eq!(rt; entries.len(), 1);
+    assert_eq!(rt; entries[0].place, 0);
+    assert_eq!(rt; entries[0].key.as_slice(), key_of(b'a').as_slice());
+    table[3] = b'b';
+    assert_eq!(rt;
+        read_table(rt.alloc(), &table).err(),
+        Some(BadTable::At(TableRule::Crc, 26))
+    );
+    let empty = TableBuilder::start(rt.alloc()).finish()?;
+    assert_eq!(rt;
+        read_table(rt.alloc(), empty.as_slice())
+            .ok()
+            .ok_or("refused")?
+            .len(),
+        0
+    );
     Ok(())
 }

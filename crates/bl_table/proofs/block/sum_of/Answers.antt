@@ -1,4 +1,4 @@
-use Rattle.std.proofs.Common.{◌≡◌, ◌∙◌, ap, sym, ◌∷◌, ◌++◌, bit_xor, []}
+use Rattle.std.proofs.Common.{◌∙◌, ap, sym, ◌∷◌, bit_xor, []}
 use Rattle.bl_code.specs.Crc.{crc_after, mask_of}
 use Rattle.bl_table.proofs.BlockLemmas.{crc_after-append}
 use Rattle.bl_table.proofs.block.sum_of.Goals as goal

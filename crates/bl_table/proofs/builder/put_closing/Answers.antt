@@ -1,4 +1,4 @@
-use Rattle.std.proofs.Common.{◌≡◌, ◌∙◌, ap, sym, refl, arith, ◌+◌, ◌-◌, length, []}
+use Rattle.std.proofs.Common.{◌≡◌, ◌∙◌, refl, arith, ◌-◌, length, []}
 use Rattle.std.proofs.lemmas.Result.{on_ok_weaker}
 use Rattle.bl_table.specs.Spelling.{block}
 use Rattle.bl_table.specs.Building.{block_of}

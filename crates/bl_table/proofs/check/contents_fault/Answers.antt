@@ -1,7 +1,6 @@
-use Rattle.std.proofs.Common.{◌≡◌, ◌∙◌, ap, sym, drop, Some, ◌+◌, ◌*◌}
+use Rattle.std.proofs.Common.{◌∙◌, ap, sym, drop, Some, ◌+◌}
 use Rattle.bl_table.specs.declared.fault.TableRule.TheVariants.{Restart}
-use Rattle.bl_table.specs.Faults.{Fault}
-use Rattle.bl_table.specs.Blocks.{number_at, contents, numbers_in}
+use Rattle.bl_table.specs.Blocks.{number_at, numbers_in}
 use Rattle.bl_table.proofs.ScanLemmas.{first_wrong, none_wrong, next_wrong}
 use Rattle.bl_table.proofs.check.contents_fault.Goals as goal
 use Rattle.bl_table.proofs.check.contents_fault.Goals.{then-number_at-ne0, else-number_at-ne0+then-passed-count}

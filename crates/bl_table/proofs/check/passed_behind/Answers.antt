@@ -1,5 +1,4 @@
-use Rattle.std.proofs.Common.{◌∙◌, sym, ℕ, List}
-use Rattle.bl_table.specs.Blocks.{Cell}
+use Rattle.std.proofs.Common.{◌∙◌, sym}
 use Rattle.bl_table.proofs.ScanLemmas.{one_passed, first_passed, sharing_passed, all_passed, not_passed}
 use Rattle.bl_table.proofs.check.passed_behind.Goals as goal
 use Rattle.bl_table.proofs.check.passed_behind.Goals.{else-place-gt0-via-then-place-gt0+then-shared-eq0+then-passed-count+else-from-place, else-place-gt0-via-then-place-gt0+then-shared-eq0+else-passed-count, else-place-gt0-via-then-place-gt0+else-shared-eq0, else-place-gt0-via-else-place-gt0}

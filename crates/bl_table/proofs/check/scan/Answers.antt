@@ -1,4 +1,4 @@
-use Rattle.std.proofs.Common.{◌≡◌, ◌∙◌, ap, sym, subst, refl, arith, length, length-take-le, ◌+◌, ◌≤◌, ◌<◌, true, false, ℕ, List, Vec, Global}
+use Rattle.std.proofs.Common.{◌≡◌, ◌∙◌, ap, sym, subst, refl, arith, length, length-take-le, ◌≤◌, true, false, ℕ, List, Vec, Global}
 use Rattle.bl_code.specs.Reading.{Input}
 use Rattle.bl_table.specs.Steps.{cell_read, before_at}
 use Rattle.bl_table.specs.Blocks.{stands_behind}

@@ -1,4 +1,4 @@
-use Rattle.std.proofs.Common.{◌≡◌, ◌∙◌, ap, sym, arith, ◌++◌, take, ◌-◌}
+use Rattle.std.proofs.Common.{◌≡◌, ◌∙◌, ap, arith, ◌++◌, take}
 use Rattle.bl_table.specs.Steps.{head_of}
 use Rattle.bl_table.proofs.CellLemmas.{no_head, no_suffix, no_value, no_shared, a_cell}
 use Rattle.bl_table.proofs.MoveLemmas.{moves_then, moves_less, bytes_move}

@@ -1,4 +1,4 @@
-use Rattle.std.proofs.Common.{◌≡◌, ◌∙◌, ap, arith, length, take, length-take-le, ◌≤◌}
+use Rattle.std.proofs.Common.{◌≡◌, ap, arith, length}
 use Rattle.bl_code.specs.Reading.{Input}
 use Rattle.bl_table.proofs.footer.read_footer.Goals as goal
 

@@ -1,4 +1,4 @@
-use Rattle.std.proofs.Common.{arith, length, length-drop, take_all}
+use Rattle.std.proofs.Common.{arith, length-drop, take_all}
 use Rattle.bl_table.proofs.SpellLemmas.{spelled_entry}
 use Rattle.bl_table.proofs.spell.put_entry.Goals as goal
 

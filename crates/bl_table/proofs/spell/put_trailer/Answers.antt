@@ -1,4 +1,4 @@
-use Rattle.std.proofs.Common.{◌∙◌, ap, arith, length, length-drop, take_all, drop, take, ◌-◌}
+use Rattle.std.proofs.Common.{◌∙◌, ap, arith, length-drop, take_all, drop}
 use Rattle.bl_table.proofs.SpellLemmas.{trailed}
 use Rattle.bl_table.proofs.spell.put_trailer.Goals as goal
 

@@ -1,11 +1,11 @@
-use Rattle.std.proofs.Common.{◌≡◌, ◌∙◌, ap, sym, subst, refl, arith, length, length-take-le, map, take, ◌+◌, ◌≤◌, ◌<◌, true, false, ℕ, List, Vec, Global}
+use Rattle.std.proofs.Common.{◌≡◌, ◌∙◌, ap, sym, subst, arith, length, length-take-le, take, ◌+◌, true, false, ℕ, List, Vec, Global}
 use Rattle.std.specs.Ordering.{is_lt}
 use Rattle.bl_code.specs.Order.{key_order}
 use Rattle.bl_code.specs.Reading.{Input, from_start}
 use Rattle.bl_table.specs.Steps.{cell_read}
-use Rattle.bl_table.specs.Blocks.{cell_at, cells_in, first_from, entry_of}
+use Rattle.bl_table.specs.Blocks.{cells_in, first_from}
 use Rattle.bl_table.proofs.MoveLemmas.{moves_total}
-use Rattle.bl_table.proofs.WalkLemmas.{Walks, WalkOn, walk_begins, walk_ends, walk_stops, walk_on, found, first_none, first_found, first_later}
+use Rattle.bl_table.proofs.WalkLemmas.{Walks, walk_begins, walk_ends, walk_stops, walk_on, found, first_none, first_found, first_later}
 use Rattle.bl_table.proofs.block.Block.first.Goals as goal
 
 pub entries-init : goal.entries-init

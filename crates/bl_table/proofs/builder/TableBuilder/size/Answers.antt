@@ -1,4 +1,4 @@
-use Rattle.std.proofs.Common.{◌≡◌, ◌∙◌, ap, length}
+use Rattle.std.proofs.Common.{◌∙◌, ap, length}
 use Rattle.bl_table.specs.Building.{Building}
 use Rattle.bl_table.proofs.BuildLemmas.{size_is}
 use Rattle.bl_table.proofs.builder.TableBuilder.size.Goals as goal

@@ -1,4 +1,4 @@
-use Rattle.std.proofs.Common.{ℕ, Vec, Global, ◌≡◌, ◌∙◌, ap, sym, arith, ◌+◌, ◌*◌, ◌%◌, ◌^◌, ◌<◌, ◌≤◌, ◌++◌, ◌∷◌, [], ◌⊎◌, inl, inr, true, false, length}
+use Rattle.std.proofs.Common.{ℕ, Vec, Global, ◌≡◌, ◌∙◌, ap, arith, ◌++◌, ◌∷◌, [], ◌⊎◌, inl, inr, true, false, length}
 use Rattle.bl_table.specs.declared.writer.BlockWriter.TheInside.{Inside}
 use Rattle.bl_table.specs.Spelling.{entry}
 use Rattle.bl_table.proofs.SpellLemmas.{keeps_restarts}
