@@ -18,7 +18,7 @@ size_is items given b offset size added eo es =
     let o = added.offset in
     omega arith
 
-cut_some : (hand : List Item) (i : Item) (more : List Item) (b : Bool) → is_complete (hand ++ i ∷ []) ≡ b → cut hand (i ∷ more) ≡ elim b as (λ x. Cuts) [ true ↦ behind ((hand ++ i ∷ []) ∷ []) (cut [] more) | false ↦ cut (hand ++ i ∷ []) more ]
+pub cut_some : (hand : List Item) (i : Item) (more : List Item) (b : Bool) → is_complete (hand ++ i ∷ []) ≡ b → cut hand (i ∷ more) ≡ elim b as (λ x. Cuts) [ true ↦ behind ((hand ++ i ∷ []) ∷ []) (cut [] more) | false ↦ cut (hand ++ i ∷ []) more ]
 unfolding cut
 cut_some hand i more b e = ap (λ (t : Bool). elim t as (λ x. Cuts) [ true ↦ behind ((hand ++ i ∷ []) ∷ []) (cut [] more) | false ↦ cut (hand ++ i ∷ []) more ]) e
 

@@ -8,4 +8,8 @@ mod SpellLemmas
 mod BuildLemmas
 mod WholeLemmas
 mod ReadLemmas
+mod OrderLemmas
+mod AgainLemmas
+mod BlockAgainLemmas
+mod TableAgainLemmas
 mod Rows

@@ -76,7 +76,7 @@ pub whole_short : (bytes : List ℕ) → length bytes < 48 → read_table bytes 
 unfolding read_table
 whole_short bytes short = cond-true _ _ _ (lt-ltb _ _ short)
 
-whole_long : (bytes : List ℕ) → 48 ≤ length bytes → read_table bytes ≡ entries_with bytes (footer_in (length bytes) (drop (length bytes - 48) bytes))
+pub whole_long : (bytes : List ℕ) → 48 ≤ length bytes → read_table bytes ≡ entries_with bytes (footer_in (length bytes) (drop (length bytes - 48) bytes))
 unfolding read_table
 whole_long bytes long = cond-false _ _ _ (le-ltb _ _ long)
 

@@ -137,7 +137,7 @@ pub no_bytes : (w : Writing) → Holds [] w → w.bytes ≡ []
 unfolding entries_from
 no_bytes w h = sym (some_bytes [] w h)
 
-length-fixed : (restarts : List ℕ) → length (flat_map fixed32 restarts) ≡ 4 * length restarts
+pub length-fixed : (restarts : List ℕ) → length (flat_map fixed32 restarts) ≡ 4 * length restarts
 unfolding fixed32
 length-fixed [] = refl
 length-fixed (r ∷ rs) = let e = length-fixed rs in let n = length-append (fixed32 r) (flat_map fixed32 rs) in omega arith

@@ -8,4 +8,5 @@ pub mod Marks
 pub mod Table
 pub mod Whole
 pub mod Wholes
+pub mod Laws
 pub mod Handles

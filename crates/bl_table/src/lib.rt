@@ -8,6 +8,7 @@ mod entry;
 mod fault;
 mod footer;
 mod handle;
+mod laws;
 mod mark;
 mod spell;
 #[cfg(test)]
