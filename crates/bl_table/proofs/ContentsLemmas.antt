@@ -13,7 +13,7 @@ cells_end (suc n) before input none =
     let few : nat_lt 0 (length input.left) ≡ false = le-ltb _ _ (omega arith) in
     ap (λ (b : Bool). elim b as (λ x. Cells) [ false ↦ nothing_left | true ↦ elim (cell_at before input) as (λ x. Cells) [ None ↦ record { cells = []; stop = Some input.place } | Some c ↦ and_cell c.0 (cells_at n c.0.key c.1) ] ]) few
 
-cells_some : (n : ℕ) (before : List ℕ) (input : Input) → 0 < length input.left → cells_at (suc n) before input ≡ elim (cell_at before input) as (λ x. Cells) [ None ↦ record { cells = []; stop = Some input.place } | Some c ↦ and_cell c.0 (cells_at n c.0.key c.1) ]
+pub cells_some : (n : ℕ) (before : List ℕ) (input : Input) → 0 < length input.left → cells_at (suc n) before input ≡ elim (cell_at before input) as (λ x. Cells) [ None ↦ record { cells = []; stop = Some input.place } | Some c ↦ and_cell c.0 (cells_at n c.0.key c.1) ]
 unfolding cells_at
 cells_some n before input some =
     ap (λ (b : Bool). elim b as (λ x. Cells) [ false ↦ nothing_left | true ↦ elim (cell_at before input) as (λ x. Cells) [ None ↦ record { cells = []; stop = Some input.place } | Some c ↦ and_cell c.0 (cells_at n c.0.key c.1) ] ]) (lt-ltb 0 (length input.left) some)

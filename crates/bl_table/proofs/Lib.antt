@@ -12,4 +12,7 @@ mod OrderLemmas
 mod AgainLemmas
 mod BlockAgainLemmas
 mod TableAgainLemmas
+mod CellsLemmas
+mod SearchLemmas
+mod RestartLemmas
 mod Rows

@@ -26,7 +26,7 @@ numbers_at (suc n) (suc i) bytes within =
     ∙ ap (λ k. from_le_bytes w32 (take 4 (drop (4 * suc i) bytes)) ∷ drop k (from_le_bytes w32 (take 4 bytes) ∷ numbers_in n (drop 4 bytes))) b
 
 -- the number at a place of the restarts
-restart_at : (count limit i : ℕ) (bytes : List ℕ) → i < count
+pub restart_at : (count limit i : ℕ) (bytes : List ℕ) → i < count
     → drop i (numbers_in count (drop limit bytes)) ≡ from_le_bytes w32 (take 4 (drop (limit + 4 * i) bytes)) ∷ drop (i + 1) (numbers_in count (drop limit bytes))
 restart_at count limit i bytes within =
     numbers_at count i (drop limit bytes) within

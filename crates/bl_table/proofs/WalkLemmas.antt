@@ -19,7 +19,7 @@ pub record Walks (offset : ℕ) (taker : Input) (before : List ℕ) (left : List
   pub behind : Option (List ℕ)
   pub good : entry_fault offset behind left ≡ None
 
-or_none : (a b : Option Fault) → (a or b) ≡ None → a ≡ None
+pub or_none : (a b : Option Fault) → (a or b) ≡ None → a ≡ None
 or_none None b e = refl
 or_none (Some f) b e = absurd cc
 
@@ -49,7 +49,7 @@ both_good true true f g r e = (refl, e)
 both_good true false f g r e = absurd cc
 both_good false b f g r e = absurd cc
 
-first_is_good : (offset : ℕ) (behind : Option (List ℕ)) (c : Cell) (more : List Cell) → entry_fault offset behind (c ∷ more) ≡ None → (9 ≤ length c.key) × (entry_fault offset (Some c.key) more ≡ None)
+pub first_is_good : (offset : ℕ) (behind : Option (List ℕ)) (c : Cell) (more : List Cell) → entry_fault offset behind (c ∷ more) ≡ None → (9 ≤ length c.key) × (entry_fault offset (Some c.key) more ≡ None)
 unfolding entry_fault
 first_is_good offset behind c more e =
     let good = both_good (nat_le 9 (length c.key)) (stands_behind behind c.key) (Entry, offset + c.place) (Order, offset + c.place) (entry_fault offset (Some c.key) more) e in

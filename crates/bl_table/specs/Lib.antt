@@ -2,6 +2,7 @@ pub mod Faults
 pub mod Blocks
 pub mod Steps
 pub mod Scans
+pub mod Searching
 pub mod Spelling
 pub mod Building
 pub mod Marks

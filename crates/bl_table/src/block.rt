@@ -10,7 +10,8 @@ use crate::check::{Fault, block_fault, is_before, number_at};
 use crate::entry::{BlockEntry, next_entry};
 use crate::fault::{BadTable, TableErr, TableRule};
 use crate::handle::Handle;
-use bl_code::{Crc, Octets, Taker, mask};
+use crate::search::{restart_for_key, restart_for_place, taker_at};
+use bl_code::{Crc, Octets, mask};
 use std::alloc::Global;
 use std::marker::Model;
 use std::mem;
@@ -113,12 +114,13 @@ impl Block {
         })
     }
 
-    /// The first entry at or behind a key of at least 9 bytes.
+    /// The first entry at or behind a key of at least 9 bytes: a search among the restarts, and a walk from one.
     pub fn first(&self, alloc: Global, from: &[u8]) -> Result<Option<BlockEntry>, TableErr>
         requires { 9 ≤ length from.now }
         ensures { IfOk result (λ e. e ≡ first_from from.now self.now) }
     {
-        let mut taker = Taker::over(&self.bytes[..self.limit]);
+        let place = restart_for_key(&self.bytes, self.limit, self.count, from);
+        let mut taker = taker_at(&self.bytes[..self.limit], place);
         let mut before = Vec::new(alloc);
         let mut key = Vec::new(alloc);
         'entries: while taker.left() > 0 {
@@ -138,10 +140,16 @@ impl Block {
     }
 
     /// The entry that follows the one at a place of the table; None where none follows, or none stands there.
+    /// It is reached by a search among the restarts, and a walk from one.
     pub fn after(&self, alloc: Global, place: u64) -> Result<Option<BlockEntry>, TableErr>
         ensures { IfOk result (λ e. e ≡ next_after place self.now) }
     {
-        let mut taker = Taker::over(&self.bytes[..self.limit]);
+        if place < self.offset {
+            return Ok(None);
+        }
+        let at = place - self.offset;
+        let start = restart_for_place(&self.bytes, self.limit, self.count, at);
+        let mut taker = taker_at(&self.bytes[..self.limit], start);
         let mut before = Vec::new(alloc);
         let mut key = Vec::new(alloc);
         let mut passed = false;

@@ -30,7 +30,8 @@ pub(crate) struct Stepped<'a> {
     pub value: &'a [u8],
 }
 
-fn take_lengths(taker: &mut Taker) -> Option<Lengths>
+/// Takes the lengths in front of an entry.
+pub(crate) fn take_lengths(taker: &mut Taker) -> Option<Lengths>
     ensures head { TakesHead result taker.old taker.new }
     ensures moves { OnSome result (Moves 3 taker.old taker.new) }
 {

@@ -10,6 +10,7 @@ mod footer;
 mod handle;
 mod laws;
 mod mark;
+mod search;
 mod spell;
 #[cfg(test)]
 mod tests;

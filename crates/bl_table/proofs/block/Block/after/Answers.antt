@@ -1,22 +1,26 @@
-use Rattle.std.proofs.Common.{◌≡◌, ◌∙◌, ap, sym, subst, arith, length, length-take-le, take, ◌+◌, ℕ, List, Vec, Global}
-use Rattle.bl_code.specs.Reading.{Input, from_start}
+use Rattle.std.proofs.Common.{◌≤◌, ◌-◌, map, ◌≡◌, ◌∙◌, ap, sym, subst, arith, length, take, ◌+◌, ℕ, List, Vec, Global}
 use Rattle.bl_table.specs.Steps.{cell_read}
-use Rattle.bl_table.specs.Blocks.{cells_in, next_after}
+use Rattle.bl_table.specs.Blocks.{cells_in, next_after, entry_of}
+use Rattle.bl_table.specs.Searching.{at_place, cells_behind}
+use Rattle.bl_table.proofs.RestartLemmas.{walk_at, total_at, next_before}
 use Rattle.bl_table.proofs.MoveLemmas.{moves_total}
-use Rattle.bl_table.proofs.WalkLemmas.{Walks, walk_begins, walk_ends, walk_stops, walk_on, found, next_none, next_found, next_later}
+use Rattle.bl_table.proofs.WalkLemmas.{Walks, walk_ends, walk_stops, walk_on, found, next_none, next_found, next_later}
 use Rattle.bl_table.proofs.block.Block.after.Goals as goal
 
 pub entries-init : goal.entries-init
 entries-init c =
-    let start = c.over-taker.ensures ∙ ap (λ b. from_start (take c.self.inside.limit b)) c.deref.ensures.value in
-    let place : c.over-taker.result.place ≡ 0 = ap (λ (i : Input). i.place) start in
     let i = c.self.invariant in
-    let left : length c.over-taker.result.left ≡ c.self.inside.limit = ap (λ (i : Input). length i.left) start ∙ length-take-le c.self.inside.limit c.self.inside.bytes.items (omega arith) in
+    let fits : c.self.inside.limit ≤ length c.self.inside.bytes.items = omega arith in
+    let entries = take c.self.inside.limit c.self.inside.bytes.items in
+    let begins = (rw c.deref.ensures.value at c.restart_for_place-start.ensures) c.self.inside.offset i.3 in
+    let start : c.taker_at-taker.result ≡ at_place c.restart_for_place-start.result entries = c.taker_at-taker.ensures ∙ ap (λ b. at_place c.restart_for_place-start.result (take c.self.inside.limit b)) c.deref-2.ensures.value in
+    let same : c.self.inside.offset + (c.args.place - c.self.inside.offset) ≡ c.args.place = let up = c.if-place-self.false in omega arith in
     record {
-      total = omega arith;
-      left = (cells_in (take c.self.inside.limit c.self.inside.bytes.items)).cells;
-      walks = walk_begins c.self.inside.offset c.self.inside.limit c.self.inside.count c.self.inside.bytes.items c.new-before.result.items c.over-taker.result i.3 start c.new-before.ensures.items;
-      same = ap (next_after c.args.place) c.self.view_is;
+      total = total_at c.self.inside.limit c.restart_for_place-start.result c.self.inside.bytes.items c.taker_at-taker.result start begins.within fits;
+      left = cells_behind c.restart_for_place-start.result entries;
+      walks = walk_at _ c.self.inside.offset c.restart_for_place-start.result entries c.new-before.result.items c.taker_at-taker.result begins start c.new-before.ensures.items;
+      same = ap (λ p. next_after p (map (entry_of c.self.inside.offset) (cells_behind c.restart_for_place-start.result entries))) (sym same) ∙ begins.same
+          ∙ ap (λ p. next_after p (map (entry_of c.self.inside.offset) (cells_in entries).cells)) same ∙ ap (next_after c.args.place) c.self.view_is;
     }
 
 pub returns-in_default : goal.returns-in_default
@@ -62,3 +66,7 @@ overflow_add-passed c =
     let place = rw c.in-Some.is at c.in_ok-entry.ensures.place in
     let i = c.self.invariant in
     omega (arith, place, c.entries.invariant.total, i.1, i.2)
+
+pub returns-then-place-self : goal.returns-then-place-self
+returns-then-place-self c =
+    sym (ap (next_after c.args.place) (sym c.self.view_is) ∙ next_before c.self.inside.offset c.args.place (cells_in (take c.self.inside.limit c.self.inside.bytes.items)).cells c.if-place-self.true)

@@ -1,24 +1,26 @@
-use Rattle.std.proofs.Common.{◌≡◌, ◌∙◌, ap, sym, subst, arith, length, length-take-le, take, ◌+◌, true, false, ℕ, List, Vec, Global}
+use Rattle.std.proofs.Common.{◌≤◌, ◌≡◌, ◌∙◌, ap, sym, subst, arith, length, take, ◌+◌, true, false, ℕ, List, Vec, Global}
 use Rattle.std.specs.Ordering.{is_lt}
 use Rattle.bl_code.specs.Order.{key_order}
-use Rattle.bl_code.specs.Reading.{Input, from_start}
 use Rattle.bl_table.specs.Steps.{cell_read}
-use Rattle.bl_table.specs.Blocks.{cells_in, first_from}
+use Rattle.bl_table.specs.Blocks.{first_from}
+use Rattle.bl_table.specs.Searching.{at_place, cells_behind}
+use Rattle.bl_table.proofs.RestartLemmas.{walk_at, total_at}
 use Rattle.bl_table.proofs.MoveLemmas.{moves_total}
-use Rattle.bl_table.proofs.WalkLemmas.{Walks, walk_begins, walk_ends, walk_stops, walk_on, found, first_none, first_found, first_later}
+use Rattle.bl_table.proofs.WalkLemmas.{Walks, walk_ends, walk_stops, walk_on, found, first_none, first_found, first_later}
 use Rattle.bl_table.proofs.block.Block.first.Goals as goal
 
 pub entries-init : goal.entries-init
 entries-init c =
-    let start = c.over-taker.ensures ∙ ap (λ b. from_start (take c.self.inside.limit b)) c.deref.ensures.value in
-    let place : c.over-taker.result.place ≡ 0 = ap (λ (i : Input). i.place) start in
     let i = c.self.invariant in
-    let left : length c.over-taker.result.left ≡ c.self.inside.limit = ap (λ (i : Input). length i.left) start ∙ length-take-le c.self.inside.limit c.self.inside.bytes.items (omega arith) in
+    let fits : c.self.inside.limit ≤ length c.self.inside.bytes.items = omega arith in
+    let entries = take c.self.inside.limit c.self.inside.bytes.items in
+    let begins = (rw c.deref.ensures.value at c.restart_for_key-place.ensures) c.self.inside.offset i.3 in
+    let start : c.taker_at-taker.result ≡ at_place c.restart_for_key-place.result entries = c.taker_at-taker.ensures ∙ ap (λ b. at_place c.restart_for_key-place.result (take c.self.inside.limit b)) c.deref-2.ensures.value in
     record {
-      total = omega arith;
-      left = (cells_in (take c.self.inside.limit c.self.inside.bytes.items)).cells;
-      walks = walk_begins c.self.inside.offset c.self.inside.limit c.self.inside.count c.self.inside.bytes.items c.new-before.result.items c.over-taker.result i.3 start c.new-before.ensures.items;
-      same = ap (first_from c.args.from.now) c.self.view_is;
+      total = total_at c.self.inside.limit c.restart_for_key-place.result c.self.inside.bytes.items c.taker_at-taker.result start begins.within fits;
+      left = cells_behind c.restart_for_key-place.result entries;
+      walks = walk_at (first_from c.args.from.now) c.self.inside.offset c.restart_for_key-place.result entries c.new-before.result.items c.taker_at-taker.result begins start c.new-before.ensures.items;
+      same = begins.same ∙ ap (first_from c.args.from.now) c.self.view_is;
     }
 
 pub returns-in_default : goal.returns-in_default
