@@ -15,4 +15,5 @@ mod TableAgainLemmas
 mod CellsLemmas
 mod SearchLemmas
 mod RestartLemmas
+mod GrammarLemmas
 mod Rows

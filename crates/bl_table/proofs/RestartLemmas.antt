@@ -131,7 +131,7 @@ pub record Restarted (offset : ℕ) (bytes : List ℕ) (r : ℕ) : Type 0 where
   pub walk : Walk bytes cell back
   pub good : entry_fault offset None (front ++ cell ∷ back) ≡ None
 
-second_none : (a b : Option Fault) → (a or b) ≡ None → b ≡ None
+pub second_none : (a b : Option Fault) → (a or b) ≡ None → b ≡ None
 second_none None b e = e
 second_none (Some f) b e = absurd cc
 
@@ -182,7 +182,7 @@ second_holds true true f g r e = refl
 second_holds true false f g r e = absurd cc
 second_holds false b f g r e = absurd cc
 
-stands_on : (offset : ℕ) (before : Option (List ℕ)) (c : Cell) (more : List Cell) → entry_fault offset before (c ∷ more) ≡ None → stands_behind before c.key ≡ true
+pub stands_on : (offset : ℕ) (before : Option (List ℕ)) (c : Cell) (more : List Cell) → entry_fault offset before (c ∷ more) ≡ None → stands_behind before c.key ≡ true
 unfolding entry_fault
 stands_on offset before c more e = second_holds (nat_le 9 (length c.key)) (stands_behind before c.key) (Entry, offset + c.place) (Order, offset + c.place) (entry_fault offset (Some c.key) more) e
 

@@ -10,4 +10,5 @@ pub mod Table
 pub mod Whole
 pub mod Wholes
 pub mod Laws
+pub mod Grammar
 pub mod Handles

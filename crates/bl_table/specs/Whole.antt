@@ -65,11 +65,12 @@ pub record Data : Type 0 where
 abbrev pub data_handle : ℕ → List ℕ → Option Handle
 data_handle size value = named size (option_and_then (λ h. if length h.1.left == 0 then Some h else None) (handle_at (from_start value)))
 
--- a data block has an entry
+-- the entries of a data block
 abbrev pub block_entries : List ℕ → Option Handle → List BlockEntry
 block_entries bytes None = []
 block_entries bytes (Some h) = map (entry_of h.offset) (block_of bytes h).cells
 
+-- an index entry at this place names a block, which has an entry
 abbrev pub block_fault : List ℕ → ℕ → Option Handle → Option Fault
 block_fault bytes place None = Some (rule.Handle, place)
 block_fault bytes place (Some h) = (block_of bytes h).fault and expect (not (block_of bytes h).bare) rule.Entry h.offset

@@ -23,4 +23,5 @@ pub use entry::BlockEntry;
 pub use fault::{BadTable, TableErr, TableRule};
 pub use footer::read_footer;
 pub use handle::Handle;
+pub use laws::{tables_are_read_again, tables_are_read_block_by_block};
 pub use whole::read_table;

@@ -1,0 +1,40 @@
+-- What the reading of a whole table finds: the footer's handles, and block by block the entries.
+use Rattle.std.specs.Prelude.{◌≡◌, ℕ, ◌+◌, ◌-◌, ◌≤◌, true, List, [], ◌∷◌, length, flat_map, take, drop, Option, None, Some, Ok}
+use Rattle.bl_table.specs.declared.entry.BlockEntry.{BlockEntry}
+use Rattle.bl_table.specs.declared.handle.Handle.{Handle}
+use Rattle.bl_table.specs.Blocks.{read_block, stands_behind}
+use Rattle.bl_table.specs.Table.{read_footer}
+use Rattle.bl_table.specs.Whole.{data_handle, read_table}
+
+-- the bytes of a handle's block and of its trailer
+abbrev pub bytes_of : List ℕ → Handle → List ℕ
+bytes_of bytes h = take (h.size + 5) (drop h.offset bytes)
+
+-- the blocks that these index entries name, one for each
+abbrev pub AreBlocks : List ℕ → List BlockEntry → List (List BlockEntry) → Type 0
+AreBlocks bytes [] [] = Unit {0}
+AreBlocks bytes [] (b ∷ bs) = ⊥
+AreBlocks bytes (i ∷ is) [] = ⊥
+AreBlocks bytes (i ∷ is) (b ∷ bs) =
+    ((h : Handle) × (data_handle (length bytes) i.value ≡ Some h) × (read_block (bytes_of bytes h) h ≡ Ok b)) × AreBlocks bytes is bs
+
+-- each key has at least nine bytes, and stands behind the one before it, if there is one
+abbrev pub KeysAscend : Option (List ℕ) → List BlockEntry → Type 0
+KeysAscend before [] = Unit {0}
+KeysAscend before (e ∷ entries) = (9 ≤ length e.key) × (stands_behind before e.key ≡ true) × KeysAscend (Some e.key) entries
+
+pub record IsTable (bytes : List ℕ) (entries : List BlockEntry) : Type 0 where
+  pub meta : Handle
+  pub index : Handle
+  pub footer : read_footer (drop (length bytes - 48) bytes) (length bytes) ≡ Ok (meta, index)
+  pub empty : read_block (bytes_of bytes meta) meta ≡ Ok []
+  pub names : List BlockEntry
+  pub names_are : read_block (bytes_of bytes index) index ≡ Ok names
+  pub blocks : List (List BlockEntry)
+  pub blocks_are : AreBlocks bytes names blocks
+  pub entries_are : flat_map (λ (b : List BlockEntry). b) blocks ≡ entries
+  pub ascending : KeysAscend None entries
+
+-- a table that is read is one, block by block, of ascending entries
+abbrev pub ReadsBlocks : Type 0
+ReadsBlocks = (bytes : List ℕ) (entries : List BlockEntry) → read_table bytes ≡ Ok entries → IsTable bytes entries
