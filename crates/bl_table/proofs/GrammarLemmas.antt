@@ -1,26 +1,27 @@
--- What is known of a table that was read.
-use Rattle.std.proofs.Common.{◌≡◌, ℕ, ◌+◌, ◌-◌, ◌*◌, ◌≤◌, ◌==◌, ◌&&◌, ◌||◌, nat_le, not, Bool, true, false, cond, List, [], ◌∷◌, ◌++◌, length, length-drop, map, take, drop, flat_map, Option, None, Some, Ok, Err, refl, sym, ◌∙◌, ap, subst, arith, inl, inr}
+-- A table that is read is one by the relation, and the other way round.
+use Rattle.std.proofs.Common.{◌≡◌, ℕ, ◌+◌, ◌-◌, ◌*◌, ◌<◌, ◌≤◌, ◌==◌, ◌&&◌, ◌||◌, nat_le, not, Bool, true, false, cond, List, [], ◌∷◌, ◌++◌, length, length-drop, length-take-le, map, take, drop, flat_map, Option, None, Some, Ok, Err, refl, sym, ◌∙◌, ap, subst, arith, inl, inr}
 use Rattle.std.specs.Prelude.{is_some, option_and_then}
 use Rattle.std.specs.Ordering.{is_lt}
 use Rattle.std.specs.Int.{w64, from_le_bytes}
-use Rattle.std.proofs.lemmas.Bool.{cases_lt, eq-eqb, le-leb, cond-true, cond-false}
+use Rattle.std.proofs.lemmas.Bool.{cases_lt, eq-eqb, eqb-true, le-leb, cond-true, cond-false}
 use Rattle.bl_code.specs.Order.{key_order}
 use Rattle.bl_code.specs.Reading.{Input, Read, from_start}
 use Rattle.bl_table.specs.declared.entry.BlockEntry.{BlockEntry}
 use Rattle.bl_table.specs.declared.handle.Handle.{Handle}
 use Rattle.bl_table.specs.declared.fault.TableRule.{TableRule}
 use Rattle.bl_table.specs.declared.fault.TableRule.TheVariants as rule
-use Rattle.bl_table.specs.Faults.{Fault, expect, unless, ◌and◌, comes_first}
-use Rattle.bl_table.specs.Blocks.{Cell, Contents, contents, block_in, block_at, number_at, entry_of, entry_fault, stands_behind, head_entry, read_block}
+use Rattle.bl_table.specs.Faults.{Fault, expect, unless, ◌or◌, ◌and◌, comes_first}
+use Rattle.bl_table.specs.Blocks.{Cell, Cells, Contents, cell_at, cells_at, cells_in, block_in, block_at, trailer_fault, number_at, entry_of, entry_fault, stop_fault, stands_behind, head_entry, read_block}
 use Rattle.bl_table.specs.Table.{handle_at, ends_before, inside, with_magic, with_index, read_footer}
-use Rattle.bl_table.specs.Whole.{Data, Footer, named, second_fault, footer_in, block_of, no_entry, meta_fault, index_fault, data_handle, block_entries, block_fault, data_at, data_of, have_order, ascend, last_entry, order_fault, data_fault, table_fault, read_table}
-use Rattle.bl_table.specs.Grammar.{bytes_of, AreBlocks, KeysAscend, IsTable}
+use Rattle.bl_table.specs.Whole.{Data, Footer, named, second_fault, footer_in, block_of, no_entry, meta_fault, index_fault, data_handle, block_entries, block_fault, data_at, data_of, have_order, ascend, descend, last_entry, order_fault, last_fault, first_fault, next_fault, data_fault, table_fault, read_table}
+use Rattle.bl_table.specs.Grammar.{bytes_of, last_of, IsBelow, AreBlocks, KeysAscend, IsTable}
 use Rattle.bl_table.proofs.BlockLemmas.{is_good, good_limit, block_whole}
+use Rattle.bl_table.proofs.ContentsLemmas.{cells_stop, cells_more}
 use Rattle.bl_table.proofs.WalkLemmas.{or_none, first_is_good}
 use Rattle.bl_table.proofs.RestartLemmas.{second_none, stands_on}
 use Rattle.bl_table.proofs.ReadLemmas.{whole_short, whole_long, entries_in}
 
-accepted : {A : Type 0} (fault : Option Fault) (x y : A) → unless fault x ≡ Ok y → (fault ≡ None) × (x ≡ y)
+pub accepted : {A : Type 0} (fault : Option Fault) (x y : A) → unless fault x ≡ Ok y → (fault ≡ None) × (x ≡ y)
 accepted None x y e = (refl, cc)
 accepted (Some f) x y e = absurd cc
 
@@ -91,16 +92,68 @@ footer_read size tail n long e =
 block_read : (bytes : List ℕ) (h : Handle) → (block_of bytes h).fault ≡ None → read_block (bytes_of bytes h) h ≡ Ok (map (entry_of h.offset) (block_of bytes h).cells)
 block_read bytes h e = ap (λ f. unless f (map (entry_of h.offset) (block_of bytes h).cells)) e
 
-cells_good : (bytes : List ℕ) (h : Handle) → (block_of bytes h).fault ≡ None → entry_fault h.offset None (block_of bytes h).cells ≡ None
-cells_good bytes h e =
+-- what a block without a fault holds
+record Good (bytes : List ℕ) (h : Handle) : Type 0 where
+  limit : ℕ
+  block : List ℕ
+  fits : limit ≤ length block
+  cells : (block_of bytes h).cells ≡ (cells_in (take limit block)).cells
+  bare : (block_of bytes h).bare ≡ (limit == 0)
+  stop : stop_fault h.offset (cells_in (take limit block)).stop ≡ None
+  good : entry_fault h.offset None (block_of bytes h).cells ≡ None
+
+good_block : (bytes : List ℕ) (h : Handle) → (block_of bytes h).fault ≡ None → Good bytes h
+good_block bytes h e =
     let slice : List ℕ = bytes_of bytes h in
     let g = is_good slice h (sym e) in
     let block : List ℕ = take h.size slice in
-    let limit = good_limit h.offset (length block - 4) (number_at block (length block - 4)) block g.good refl refl in
-    let cells : (block_at h slice).cells ≡ (contents h.offset block (length block - 4 - 4 * number_at block (length block - 4)) (number_at block (length block - 4))).cells =
-    ap (λ (b : Contents). b.cells) (block_whole slice h (block_in h.offset block) g.whole g.fits refl) ∙ ap (λ (b : Contents). b.cells) limit.0 in
+    let count : ℕ = number_at block (length block - 4) in
+    let limit : ℕ = length block - 4 - 4 * count in
+    let l = good_limit h.offset (length block - 4) count block g.good refl refl in
+    let is : block_at h slice ≡ record (block_in h.offset block) { fault = (block_in h.offset block).fault or trailer_fault (h.offset + h.size) block (drop h.size slice) } = block_whole slice h (block_in h.offset block) g.whole g.fits refl in
+    let cells : (block_at h slice).cells ≡ (cells_in (take limit block)).cells = ap (λ (b : Contents). b.cells) is ∙ ap (λ (b : Contents). b.cells) l.0 in
     let P : List Cell → Type 0 = λ l. entry_fault h.offset None l ≡ None in
-    subst P (sym cells) (or_none _ _ (or_none _ _ limit.1))
+    record {
+      limit = limit;
+      block = block;
+      fits = omega arith;
+      cells = cells;
+      bare = ap (λ (b : Contents). b.bare) is ∙ ap (λ (b : Contents). b.bare) l.0;
+      stop = second_none _ _ (or_none _ _ l.1);
+      good = subst P (sym cells) (or_none _ _ (or_none _ _ l.1));
+    }
+
+cells_good : (bytes : List ℕ) (h : Handle) → (block_of bytes h).fault ≡ None → entry_fault h.offset None (block_of bytes h).cells ≡ None
+cells_good bytes h e = (good_block bytes h e).good
+
+-- it has an entry exactly where its restarts leave a byte for one
+some_read : (offset : ℕ) (bytes : List ℕ) (r : Read Cell) → cell_at [] (from_start bytes) ≡ r → 0 < length bytes → stop_fault offset (cells_in bytes).stop ≡ None → (c : Cell) × (more : List Cell) × ((cells_in bytes).cells ≡ c ∷ more)
+some_read offset bytes None e some stop =
+    absurd (let f = ap (λ (x : Cells). stop_fault offset x.stop) (sym (cells_stop (length bytes) [] (from_start bytes) some (omega arith) e)) ∙ stop in cc)
+some_read offset bytes (Some q) e some stop =
+    (q.0, (cells_at (length bytes - 1) q.0.key q.1).cells, ap (λ (x : Cells). x.cells) (cells_more (length bytes) [] (from_start bytes) q.1 q.0 some (omega arith) e))
+
+wide_taken : (limit : ℕ) (bytes : List ℕ) → 0 < limit → length bytes ≡ limit → 0 < length bytes
+wide_taken limit bytes wide n = omega arith
+
+some_cells : (bytes : List ℕ) (h : Handle) → (block_of bytes h).fault ≡ None → (block_of bytes h).bare ≡ false → (c : Cell) × (more : List Cell) × ((block_of bytes h).cells ≡ c ∷ more)
+some_cells bytes h e bare =
+    let g = good_block bytes h e in
+    let wide : 0 < g.limit = elim (cases_lt 0 g.limit) [ inl some ↦ some | inr none ↦ absurd (let f = sym (eq-eqb g.limit 0 (omega arith)) ∙ sym g.bare ∙ bare in cc) ] in
+    let long : length (take g.limit g.block) ≡ g.limit = length-take-le g.limit g.block g.fits in
+    let read = some_read h.offset (take g.limit g.block) (cell_at [] (from_start (take g.limit g.block))) refl (wide_taken g.limit (take g.limit g.block) wide long) g.stop in
+    (read.0, read.1, g.cells ∙ read.2)
+
+no_bytes : (limit : ℕ) (block : List ℕ) → limit ≡ 0 → (cells_in (take limit block)).cells ≡ []
+unfolding cells_at
+no_bytes limit block e = ap (λ n. (cells_in (take n block)).cells) e
+
+bare_if : (t : Bool) (limit : ℕ) (block : List ℕ) (c : Cell) (more : List Cell) → (limit == 0) ≡ t → (cells_in (take limit block)).cells ≡ c ∷ more → t ≡ false
+bare_if true limit block c more e f = absurd (let g = sym (no_bytes limit block (eqb-true limit 0 e)) ∙ f in cc)
+bare_if false limit block c more e f = refl
+
+pub not_bare : (bytes : List ℕ) (h : Handle) (c : Cell) (more : List Cell) → (block_of bytes h).fault ≡ None → (block_of bytes h).cells ≡ c ∷ more → (block_of bytes h).bare ≡ false
+not_bare bytes h c more e f = let g = good_block bytes h e in g.bare ∙ bare_if (g.limit == 0) g.limit g.block c more refl (sym g.cells ∙ f)
 
 -- the metaindex block
 no_cells : (offset : ℕ) (cells : List Cell) → no_entry offset cells ≡ None → cells ≡ []
@@ -117,36 +170,72 @@ record DataRead (bytes : List ℕ) (h : Option Handle) : Type 0 where
   handle : Handle
   is : h ≡ Some handle
   fault : (block_of bytes handle).fault ≡ None
+  bare : (block_of bytes handle).bare ≡ false
+
+not_true : (b : Bool) → not b ≡ true → b ≡ false
+not_true true e = absurd cc
+not_true false e = refl
 
 data_read : (bytes : List ℕ) (place : ℕ) (h : Option Handle) → block_fault bytes place h ≡ None → DataRead bytes h
 data_read bytes place None e = absurd cc
-data_read bytes place (Some h) e = record { handle = h; is = refl; fault = (and_both (block_of bytes h).fault (expect (not (block_of bytes h).bare) rule.Entry h.offset) e).0 }
+data_read bytes place (Some h) e =
+    let both = and_both (block_of bytes h).fault (expect (not (block_of bytes h).bare) rule.Entry h.offset) e in
+    record { handle = h; is = refl; fault = both.0; bare = not_true (block_of bytes h).bare (expected (not (block_of bytes h).bare) rule.Entry h.offset both.1) }
 
-parts_none : (a b c d f : Option Fault) → (a and (b and (c and (d and f)))) ≡ None → (a ≡ None) × (c ≡ None) × (f ≡ None)
+parts_none : (a b c d f : Option Fault) → (a and (b and (c and (d and f)))) ≡ None → (a ≡ None) × (b ≡ None) × (c ≡ None) × (d ≡ None) × (f ≡ None)
 parts_none a b c d f e =
     let one = and_both a (b and (c and (d and f))) e in
     let two = and_both b (c and (d and f)) one.1 in
     let three = and_both c (d and f) two.1 in
     let four = and_both d f three.1 in
-    (one.0, three.0, four.1)
+    (one.0, two.0, three.0, four.0, four.1)
 
-blocks_read : (bytes : List ℕ) (offset : ℕ) (cells : List Cell) (last : Option BlockEntry) → data_fault last (map (data_at bytes offset) cells) ≡ None
-    → AreBlocks bytes (map (entry_of offset) cells) (map (λ (d : Data). d.entries) (map (data_at bytes offset) cells))
+pub last_some : (e : BlockEntry) (entries : List BlockEntry) → last_entry (Some e) entries ≡ Some (last_of e entries)
+last_some e [] = refl
+last_some e (x ∷ entries) = last_some x entries
+
+last_holds : (place : ℕ) (key : List ℕ) (e : BlockEntry) (entries : List BlockEntry) → last_fault place key (last_entry None (e ∷ entries)) ≡ None → descend (last_of e entries).key key ≡ false
+last_holds place key e entries f =
+    not_true (descend (last_of e entries).key key) (expected (not (descend (last_of e entries).key key)) rule.Order place (ap (last_fault place key) (sym (last_some e entries)) ∙ f))
+
+below_holds : (place : ℕ) (key : List ℕ) (b : List BlockEntry) (bs : List (List BlockEntry)) → first_fault place key (head_entry b) ≡ None → IsBelow key (b ∷ bs)
+below_holds place key [] bs f = tt
+below_holds place key (e ∷ entries) bs f = expected (ascend key e.key) rule.Order place f
+
+abbrev pub blocks_in : List Data → List (List BlockEntry)
+blocks_in ds = map (λ (d : Data). d.entries) ds
+
+next_holds : (place : ℕ) (key : List ℕ) (ds : List Data) → next_fault place key ds ≡ None → IsBelow key (blocks_in ds)
+next_holds place key [] f = tt
+next_holds place key (d ∷ ds) f = below_holds place key d.entries (blocks_in ds) f
+
+blocks_read : (bytes : List ℕ) (offset : ℕ) (cells : List Cell) (last : Option BlockEntry) → data_fault last (map (data_at bytes offset) cells) ≡ None → AreBlocks bytes (map (entry_of offset) cells) (blocks_in (map (data_at bytes offset) cells))
 unfolding data_fault
 blocks_read bytes offset [] last e = tt
 blocks_read bytes offset (c ∷ cells) last e =
+    let place = offset + c.place in
+    let o = data_handle (length bytes) c.value in
+    let ds = map (data_at bytes offset) cells in
     let parts = parts_none _ _ _ _ _ e in
-    let r = data_read bytes (offset + c.place) (data_handle (length bytes) c.value) parts.1 in (
-      (r.handle, r.is, block_read bytes r.handle r.fault ∙ ap (λ h. Ok (block_entries bytes h)) (sym r.is)),
-      blocks_read bytes offset cells (last_entry last (block_entries bytes (data_handle (length bytes) c.value))) parts.2,
+    let r = data_read bytes place o parts.2 in
+    let some = some_cells bytes r.handle r.fault r.bare in
+    let x = entry_of r.handle.offset some.0 in
+    let xs = map (entry_of r.handle.offset) some.1 in
+    let is : block_entries bytes o ≡ x ∷ xs = ap (block_entries bytes) r.is ∙ ap (map (entry_of r.handle.offset)) some.2 in
+    let P : List BlockEntry → Type 0 = λ b. AreBlocks bytes (entry_of offset c ∷ map (entry_of offset) cells) (b ∷ blocks_in ds) in
+    subst P (sym is) (
+      (r.handle, r.is, block_read bytes r.handle r.fault ∙ ap (λ l. Ok (map (entry_of r.handle.offset) l)) some.2),
+      last_holds place c.key x xs (ap (λ l. last_fault place c.key (last_entry None l)) (sym is) ∙ parts.1),
+      next_holds place c.key ds parts.3,
+      blocks_read bytes offset cells (last_entry last (block_entries bytes o)) parts.4,
     )
 
-joined_are : (ds : List Data) → flat_map (λ (b : List BlockEntry). b) (map (λ (d : Data). d.entries) ds) ≡ entries_in ds
+pub joined_are : (ds : List Data) → flat_map (λ (b : List BlockEntry). b) (map (λ (d : Data). d.entries) ds) ≡ entries_in ds
 joined_are [] = refl
 joined_are (d ∷ ds) = ap (λ more. d.entries ++ more) (joined_are ds)
 
 -- their keys ascend
-abbrev key_of : Option BlockEntry → Option (List ℕ)
+abbrev pub key_of : Option BlockEntry → Option (List ℕ)
 key_of None = None
 key_of (Some e) = Some e.key
 
@@ -187,14 +276,14 @@ unfolding data_fault
 all_ascend bytes offset [] last e long = tt
 all_ascend bytes offset (c ∷ cells) last e long =
     let parts = parts_none _ _ _ _ _ e in
-    let r = data_read bytes (offset + c.place) (data_handle (length bytes) c.value) parts.1 in
+    let r = data_read bytes (offset + c.place) (data_handle (length bytes) c.value) parts.2 in
     let ds = map (data_at bytes offset) cells in
     let P : Option Handle → Type 0 = λ h. order_fault last (head_entry (block_entries bytes h)) ≡ None → data_fault (last_entry last (block_entries bytes h)) ds ≡ None → KeysAscend (key_of last) (block_entries bytes h ++ entries_in ds) in
     let good = cells_good bytes r.handle r.fault in
     let on : P (Some r.handle) = λ order rest.
     block_on r.handle.offset (block_of bytes r.handle).cells last (entries_in ds) good order long
     (all_ascend bytes offset cells (last_entry last (block_entries bytes (Some r.handle))) rest (long_last r.handle.offset None (block_of bytes r.handle).cells last good long)) in
-    subst P (sym r.is) on parts.0 parts.2
+    subst P (sym r.is) on parts.0 parts.4
 
 -- the whole
 with_footer : (bytes : List ℕ) (entries : List BlockEntry) (footer : Footer) (meta index : Handle) → footer.meta ≡ Some meta → footer.index ≡ Some index → read_footer (drop (length bytes - 48) bytes) (length bytes) ≡ Ok (meta, index)
@@ -219,8 +308,8 @@ with_footer bytes entries footer meta index em ei read fm fi fd es =
       ascending = subst P all (all_ascend bytes index.offset cells None d tt);
     }
 
-pub reads_blocks : (bytes : List ℕ) (entries : List BlockEntry) → read_table bytes ≡ Ok entries → IsTable bytes entries
-reads_blocks bytes entries e = elim (cases_lt (length bytes) 48) [
+pub read_is_table : (bytes : List ℕ) (entries : List BlockEntry) → read_table bytes ≡ Ok entries → IsTable bytes entries
+read_is_table bytes entries e = elim (cases_lt (length bytes) 48) [
   | inl short ↦ absurd (let f = sym (whole_short bytes short) ∙ e in cc)
   | inr long ↦
       let tail : List ℕ = drop (length bytes - 48) bytes in

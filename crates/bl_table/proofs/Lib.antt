@@ -16,4 +16,5 @@ mod CellsLemmas
 mod SearchLemmas
 mod RestartLemmas
 mod GrammarLemmas
+mod GrammarBackLemmas
 mod Rows

@@ -1,28 +1,41 @@
--- What the reading of a whole table finds: the footer's handles, and block by block the entries.
-use Rattle.std.specs.Prelude.{◌≡◌, ℕ, ◌+◌, ◌-◌, ◌≤◌, true, List, [], ◌∷◌, length, flat_map, take, drop, Option, None, Some, Ok}
+-- A whole table, block by block: a relation between the bytes of a file and an ascending list of entries.
+use Rattle.std.specs.Prelude.{◌≡◌, ℕ, ◌+◌, ◌-◌, ◌≤◌, ◌↔◌, true, false, List, [], ◌∷◌, length, flat_map, take, drop, Option, None, Some, Ok}
 use Rattle.bl_table.specs.declared.entry.BlockEntry.{BlockEntry}
 use Rattle.bl_table.specs.declared.handle.Handle.{Handle}
 use Rattle.bl_table.specs.Blocks.{read_block, stands_behind}
 use Rattle.bl_table.specs.Table.{read_footer}
-use Rattle.bl_table.specs.Whole.{data_handle, read_table}
+use Rattle.bl_table.specs.Whole.{data_handle, ascend, descend, read_table}
 
 -- the bytes of a handle's block and of its trailer
 abbrev pub bytes_of : List ℕ → Handle → List ℕ
 bytes_of bytes h = take (h.size + 5) (drop h.offset bytes)
 
--- the blocks that these index entries name, one for each
+abbrev pub last_of : BlockEntry → List BlockEntry → BlockEntry
+last_of e [] = e
+last_of e (x ∷ entries) = last_of x entries
+
+-- a key stands before the first one of the next block
+abbrev pub IsBelow : List ℕ → List (List BlockEntry) → Type 0
+IsBelow key [] = Unit {0}
+IsBelow key ([] ∷ bs) = Unit {0}
+IsBelow key ((e ∷ entries) ∷ bs) = ascend key e.key ≡ true
+
+-- The blocks that these index entries name, one for each, none of them empty. An index key stands at or behind the last key of its block, and before the first one of the next.
 abbrev pub AreBlocks : List ℕ → List BlockEntry → List (List BlockEntry) → Type 0
 AreBlocks bytes [] [] = Unit {0}
 AreBlocks bytes [] (b ∷ bs) = ⊥
 AreBlocks bytes (i ∷ is) [] = ⊥
-AreBlocks bytes (i ∷ is) (b ∷ bs) =
-    ((h : Handle) × (data_handle (length bytes) i.value ≡ Some h) × (read_block (bytes_of bytes h) h ≡ Ok b)) × AreBlocks bytes is bs
+AreBlocks bytes (i ∷ is) ([] ∷ bs) = ⊥
+AreBlocks bytes (i ∷ is) ((e ∷ entries) ∷ bs) =
+    ((h : Handle) × (data_handle (length bytes) i.value ≡ Some h) × (read_block (bytes_of bytes h) h ≡ Ok (e ∷ entries)))
+    × (descend (last_of e entries).key i.key ≡ false) × IsBelow i.key bs × AreBlocks bytes is bs
 
 -- each key has at least nine bytes, and stands behind the one before it, if there is one
 abbrev pub KeysAscend : Option (List ℕ) → List BlockEntry → Type 0
 KeysAscend before [] = Unit {0}
 KeysAscend before (e ∷ entries) = (9 ≤ length e.key) × (stands_behind before e.key ≡ true) × KeysAscend (Some e.key) entries
 
+-- The footer names an empty metaindex block and an index block, whose entries name the data blocks. All other bytes are free.
 pub record IsTable (bytes : List ℕ) (entries : List BlockEntry) : Type 0 where
   pub meta : Handle
   pub index : Handle
@@ -35,6 +48,6 @@ pub record IsTable (bytes : List ℕ) (entries : List BlockEntry) : Type 0 where
   pub entries_are : flat_map (λ (b : List BlockEntry). b) blocks ≡ entries
   pub ascending : KeysAscend None entries
 
--- a table that is read is one, block by block, of ascending entries
-abbrev pub ReadsBlocks : Type 0
-ReadsBlocks = (bytes : List ℕ) (entries : List BlockEntry) → read_table bytes ≡ Ok entries → IsTable bytes entries
+-- bytes are read as a list of entries exactly where they are the table of it
+abbrev pub ReadsTables : Type 0
+ReadsTables = (bytes : List ℕ) (entries : List BlockEntry) → (read_table bytes ≡ Ok entries) ↔ IsTable bytes entries
