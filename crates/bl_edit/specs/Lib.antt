@@ -1,4 +1,5 @@
 pub mod Bounds
+pub mod Found
 pub mod Laws
 pub mod Options
 pub mod Reading

@@ -1,6 +1,6 @@
 -- Reading edits: fields one after the other to the last byte, and the first field that is none.
-use Rattle.std.specs.Prelude.{◌≡◌, ℕ, zero, suc, ◌/◌, ◌%◌, ◌^◌, ◌==◌, ◌&&◌, Bool, true, false, List, [], ◌∷◌, ◌++◌, length, Option, None, Some, option_and_then, Result, Ok, Err, if◌then◌else◌}
-use Rattle.bl_code.specs.Order.{same_bytes}
+use Rattle.std.specs.Prelude.{◌≡◌, nat_eq, ℕ, zero, suc, ◌/◌, ◌%◌, ◌^◌, ◌==◌, ◌&&◌, Bool, true, false, List, [], ◌∷◌, ◌++◌, length, Option, None, Some, option_and_then, Result, Ok, Err, if◌then◌else◌}
+use Rattle.std.specs.Cmp.Lexicographic.{pointwise}
 use Rattle.bl_code.specs.Reading.{Input, Read, from_start, take_varint32, take_varint64, take_slice, or_fault, ◌>>=◌}
 use Rattle.bl_edit.specs.Options.{Values, max_size, is_between}
 use Rattle.bl_edit.specs.Bounds.{deletion_fits, table_fits, addition_fits, garbage_fits, is_seq, is_number}
@@ -28,8 +28,12 @@ to_the_end read = read then λ r. if length r.1.left == 0 then Some r.0 else Non
 
 -- ---- fields that stand once
 
+-- the order of keys by bytes is the only one
+abbrev pub is_comparator : List ℕ → Bool
+is_comparator name = pointwise nat_eq name comparator_name
+
 abbrev pub comparator_at : Input → Read (List ℕ)
-comparator_at input = only_if (same_bytes comparator_name) (take_slice input)
+comparator_at input = only_if is_comparator (take_slice input)
 
 abbrev pub between : ℕ → ℕ → Input → Read ℕ
 between low high input = only_if (is_between low high) (take_varint64 input)
@@ -219,13 +223,6 @@ fields_at (suc n) e input = if length input.left == 0 then Ok e else (do
 -- reading an edit from all of the bytes, with the first fault
 unfoldable pub read_edit : List ℕ → Result Edit BadEdit
 read_edit bytes = fields_at (length bytes) no_field (from_start bytes)
-
--- ---- what the code answers
-
--- what a reader of the code finds is what reading finds, and it stands behind it
-abbrev pub Finds : {X Y : Type 0} → (X → Y) → Option X → Input → Read Y → Type 0
-Finds view (Some x) behind reading = reading ≡ Some (view x, behind)
-Finds view None behind reading = reading ≡ None
 
 -- what decoding answers is what reading gives, unless memory ran out
 abbrev pub Decodes : Result Edit BadEdit → Result Edit BadEdit → Type 0
