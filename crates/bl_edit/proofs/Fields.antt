@@ -20,6 +20,10 @@ not_zero : (n : ℕ) → 0 < n → (n == 0) ≡ false
 not_zero zero h = absurd (omega arith)
 not_zero (suc n) h = eqb-suc-zero n
 
+pub fields_zero : (e : Edit) (input : Input) → fields_at 0 e input ≡ Ok e
+unfolding fields_at
+fields_zero e input = refl
+
 pub fields_end : (n : ℕ) (e : Edit) (input : Input) → length input.left ≡ 0 → fields_at n e input ≡ Ok e
 unfolding fields_at
 fields_end zero e input h = refl
