@@ -51,7 +51,7 @@ gives_none P = record { holds = λ x e. absurd cc }
 gives_64 : (input : Input) → Gives (λ n. n < 2 ^ 64) (take_varint64 input)
 gives_64 input = record { holds = λ r e. ltb-true r.0 (2 ^ 64) (below_is 64 (varint_in 10 input.place input.left) r e).1 }
 
-both_true : (a b : Bool) → (a && b) ≡ true → (a ≡ true) × (b ≡ true)
+pub both_true : (a b : Bool) → (a && b) ≡ true → (a ≡ true) × (b ≡ true)
 both_true true b h = (refl, h)
 both_true false b h = cc
 
