@@ -1,15 +1,15 @@
 -- What is appended, piece by piece, and how long it is.
-use Rattle.std.proofs.Common.{◌≡◌, ℕ, zero, suc, ◌+◌, ◌/◌, ◌<◌, ◌≤◌, Bool, true, false, List, [], ◌∷◌, ◌++◌, length, length-append, append_assoc, ◌∙◌, ap, refl, arith, inl, inr, get_or}
-use Rattle.std.specs.Prelude.{◌&&◌, ◌^◌, ◌%◌, nat_le}
+use Rattle.std.proofs.Common.{take, subst, sym, append_assoc, ◌≡◌, ℕ, zero, suc, ◌+◌, ◌/◌, ◌<◌, ◌≤◌, List, [], ◌∷◌, ◌++◌, length, length-append, append_assoc, ◌∙◌, ap, arith, inl, inr, get_or}
 use Rattle.std.specs.List.{AllByRecursion}
-use Rattle.bl_code.specs.Order.{number_part}
-use Rattle.std.proofs.lemmas.Bool.{cases_lt, leb-true}
+use Rattle.std.specs.Prelude.{flat_map}
+use Rattle.std.proofs.lemmas.List.{take_more, append-nil}
+use Rattle.std.proofs.lemmas.List.Concat.{flat_map-cons}
+use Rattle.std.proofs.lemmas.Grind.{flat_map-append}
+use Rattle.std.proofs.lemmas.Bool.{cases_lt}
 use Rattle.bl_code.specs.Numbers.{varint, varint64}
 use Rattle.bl_code.proofs.VarintLemmas.{spelled_last, spelled_more}
-use Rattle.bl_edit.specs.Options.{Values, is_between}
-use Rattle.bl_edit.specs.Bounds.{is_level, is_number, is_key, is_seq, is_kind, table_fits}
+use Rattle.bl_edit.specs.Options.{Values}
 use Rattle.bl_edit.specs.Spelling.{option_bytes}
-use Rattle.bl_edit.specs.declared.edit.NewTable.{NewTable}
 
 pub varint_size : (k n : ℕ) → length (varint k n) ≤ k
 unfolding varint
@@ -35,3 +35,18 @@ pub each_at : {A : Type 0} (P : A → Type 0) (xs : List A) (i : ℕ) (d : A) �
 each_at P [] i d h lt = absurd (omega arith)
 each_at P (x ∷ xs) zero d h lt = h.0
 each_at P (x ∷ xs) (suc i) d h lt = each_at P xs i d h.1 (omega arith)
+
+-- one item more of a loop
+pub more_bytes : {A : Type 0} (spell : A → List ℕ) (xs : List A) (i : ℕ) (x d : A) (start before after : List ℕ) → i < length xs → x ≡ get_or xs i d
+    → before ≡ start ++ flat_map spell (take i xs) → after ≡ before ++ spell x → after ≡ start ++ flat_map spell (take (i + 1) xs)
+more_bytes spell xs i x d start before after lt is so_far one =
+    let more : flat_map spell (take (i + 1) xs) ≡ flat_map spell (take i xs) ++ spell x =
+    ap (flat_map spell) (take_more xs i d lt ∙ ap (λ y. take i xs ++ y ∷ []) (sym is)) ∙ flat_map-append spell (take i xs) (x ∷ []) ∙ ap (λ ys. flat_map spell (take i xs) ++ ys) (flat_map-cons spell x [] ∙ append-nil (spell x)) in
+    one ∙ ap (λ ys. ys ++ spell x) so_far ∙ append_assoc start (flat_map spell (take i xs)) (spell x) ∙ ap (λ ys. start ++ ys) (sym more)
+
+all_push : {A : Type 0} (P : A → Type 0) (xs : List A) (x : A) → AllByRecursion P xs → P x → AllByRecursion P (xs ++ x ∷ [])
+all_push P [] x h k = (k, tt)
+all_push P (y ∷ ys) x h k = (h.0, all_push P ys x h.1 k)
+
+pub more_all : {A : Type 0} (P : A → Type 0) (xs : List A) (i : ℕ) (x d : A) → i < length xs → x ≡ get_or xs i d → AllByRecursion P (take i xs) → P x → AllByRecursion P (take (i + 1) xs)
+more_all P xs i x d lt is h k = subst (AllByRecursion P) (sym (take_more xs i d lt ∙ ap (λ y. take i xs ++ y ∷ []) (sym is))) (all_push P (take i xs) x h k)

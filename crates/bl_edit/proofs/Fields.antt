@@ -1,8 +1,8 @@
 -- The loop over fields.
-use Rattle.std.proofs.Common.{◌≡◌, ℕ, zero, suc, ◌+◌, ◌-◌, ◌<◌, ◌≤◌, Bool, true, false, List, length, refl, sym, ◌∙◌, ap, arith}
+use Rattle.std.proofs.Common.{◌≡◌, ℕ, zero, suc, ◌-◌, ◌<◌, ◌≤◌, false, List, length, refl, sym, ◌∙◌, ap, arith}
 use Rattle.std.proofs.Math.Dec.{eqb-suc-zero}
-use Rattle.std.specs.Prelude.{cond, ◌==◌, Option, None, Some, Result, Ok, Err}
-use Rattle.bl_code.specs.Reading.{Input, Read, from_start, take_varint32, or_fault, ◌>>=◌}
+use Rattle.std.specs.Prelude.{◌==◌, None, Some, Result, Ok, Err}
+use Rattle.bl_code.specs.Reading.{Input, from_start, take_varint32, or_fault, ◌>>=◌}
 use Rattle.bl_edit.specs.declared.edit.Edit.{Edit}
 use Rattle.bl_edit.specs.declared.error.BadEdit.{BadEdit}
 use Rattle.bl_edit.specs.declared.error.BadEdit.TheVariants.{At}

@@ -1,6 +1,6 @@
 -- What is read is in bounds.
-use Rattle.std.proofs.Common.{◌≡◌, ℕ, zero, suc, ◌+◌, ◌^◌, ◌<◌, ◌≤◌, nat_lt, nat_le, Bool, true, false, List, [], ◌∷◌, ◌++◌, length, refl, sym, ◌∙◌, ap, subst, arith, inl, inr}
-use Rattle.std.specs.Prelude.{cond, ◌==◌, ◌&&◌, Option, None, Some, option_and_then, Result, Ok, Err, IfSome}
+use Rattle.std.proofs.Common.{◌≡◌, ℕ, zero, suc, ◌^◌, ◌<◌, nat_le, Bool, true, false, List, [], ◌∷◌, ◌++◌, length, refl, sym, ◌∙◌, subst, arith, inl, inr}
+use Rattle.std.specs.Prelude.{cond, ◌==◌, ◌&&◌, Option, None, Some, option_and_then, Result, Ok}
 use Rattle.std.specs.List.{AllByRecursion}
 use Rattle.std.proofs.lemmas.Bool.{cases_lt, leb-true, ltb-true}
 use Rattle.bl_code.specs.Reading.{Input, Read, from_start, take_slice, take_varint32, take_varint64, varint_in, or_fault, ◌>>=◌}
@@ -13,7 +13,7 @@ use Rattle.bl_edit.specs.declared.error.BadEdit.TheVariants.{At}
 use Rattle.bl_edit.specs.Options.{Values, AreInRange, IsBetween, is_between, max_size}
 use Rattle.bl_edit.specs.Bounds.{deletion_fits, table_fits, addition_fits, garbage_fits, is_seq, IsEdit, FitsWords}
 use Rattle.bl_edit.specs.Laws.{ReadsInBounds}
-use Rattle.bl_edit.specs.Reading.{◌then◌, only_if, to_the_end, as_field, between, values_at, values_in, comparator_at, options_at, deleted_at, table_at, addition_at, garbage_at, counts_at, oldest_at, behind_customs, passed_at, field_at, fields_at, no_field, read_edit, with_field, Field, Comparator, LogNumber, NextFile, LastSequence, Fixed, Deleted, Added, Blob, Garbage, Passed}
+use Rattle.bl_edit.specs.Reading.{◌then◌, only_if, to_the_end, as_field, between, values_at, values_in, comparator_at, options_at, deleted_at, table_at, addition_at, garbage_at, counts_at, oldest_at, behind_customs, field_at, fields_at, no_field, read_edit, with_field, Field, Comparator, LogNumber, NextFile, LastSequence, Fixed, Deleted, Added, Blob, Garbage, Passed}
 use Rattle.bl_edit.proofs.Shorter.{then_some, some_is, cond_some, below_is}
 use Rattle.bl_edit.proofs.Fields.{fields_zero, fields_end, fields_some, tag_with, field_with}
 

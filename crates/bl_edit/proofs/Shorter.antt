@@ -1,9 +1,9 @@
 -- What a reading leaves is no longer than what it began with.
-use Rattle.std.proofs.Common.{◌≡◌, ℕ, zero, suc, ◌+◌, ◌-◌, ◌*◌, ◌^◌, ◌<◌, ◌≤◌, nat_lt, Bool, true, false, List, [], ◌∷◌, length, take, drop, length-drop, refl, sym, ◌∙◌, ap, subst, arith}
+use Rattle.std.proofs.Common.{◌≡◌, ℕ, zero, suc, ◌+◌, ◌-◌, ◌*◌, ◌^◌, ◌<◌, ◌≤◌, nat_lt, Bool, true, false, List, [], ◌∷◌, length, take, drop, length-drop, refl, sym, ◌∙◌, ap, arith}
 use Rattle.std.specs.Prelude.{cond, nat_le, ◌==◌, Option, None, Some, option_and_then}
-use Rattle.bl_code.specs.Reading.{Input, Read, from_start, take_bytes, take_slice, take_varint32, take_varint64, varint_in, below}
-use Rattle.bl_edit.specs.Bounds.{deletion_fits, table_fits, addition_fits, garbage_fits, is_seq}
-use Rattle.bl_edit.specs.Reading.{◌then◌, only_if, as_field, comparator_at, options_at, values_in, deleted_at, table_at, addition_at, garbage_at, counts_at, oldest_at, behind_customs, table_customs, blob_customs, custom_of, is_required, passed_at, field_at, Field, Comparator, LogNumber, NextFile, LastSequence, Fixed, Deleted, Added, Blob, Garbage, Passed}
+use Rattle.bl_code.specs.Reading.{Input, Read, take_bytes, take_slice, take_varint32, take_varint64, varint_in, below}
+use Rattle.bl_edit.specs.Bounds.{deletion_fits, table_fits, addition_fits, garbage_fits}
+use Rattle.bl_edit.specs.Reading.{◌then◌, only_if, as_field, options_at, values_in, deleted_at, table_at, addition_at, garbage_at, counts_at, oldest_at, behind_customs, table_customs, blob_customs, custom_of, is_required, passed_at, field_at, Field, Passed}
 
 pub then_some : {A B : Type 0} (o : Option A) (f : A → Option B) (y : B) → option_and_then f o ≡ Some y → (x : A) × (o ≡ Some x) × (f x ≡ Some y)
 then_some None f y h = cc

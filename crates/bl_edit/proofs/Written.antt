@@ -1,11 +1,11 @@
 -- What is written is read again.
-use Rattle.std.proofs.Common.{◌≡◌, ℕ, zero, suc, ◌+◌, ◌-◌, ◌^◌, ◌<◌, ◌≤◌, nat_lt, nat_le, Bool, true, false, List, [], ◌∷◌, ◌++◌, length, refl, sym, ◌∙◌, ap, subst, arith, inl, inr, lit<, append_assoc, length-append}
-use Rattle.std.specs.Prelude.{cond, ◌==◌, ◌&&◌, ◌||◌, ◌%◌, flat_map, Option, None, Some, option_and_then, Result, Ok, Err, IfSome}
+use Rattle.std.proofs.Common.{◌≡◌, ℕ, zero, suc, ◌+◌, ◌^◌, ◌<◌, ◌≤◌, nat_le, Bool, true, false, List, [], ◌∷◌, ◌++◌, length, refl, sym, ◌∙◌, ap, subst, arith, lit<, append_assoc}
+use Rattle.std.specs.Prelude.{cond, ◌==◌, ◌&&◌, ◌||◌, ◌%◌, flat_map, Option, None, Some, option_and_then, IfSome}
 use Rattle.std.specs.List.{AllByRecursion}
-use Rattle.std.proofs.lemmas.Bool.{cases_lt, leb-true, le-leb, ltb-true, eqb-true}
+use Rattle.std.proofs.lemmas.Bool.{leb-true, le-leb, ltb-true, eqb-true}
 use Rattle.std.proofs.lemmas.List.{append-nil}
 use Rattle.std.proofs.lemmas.List.Concat.{flat_map-cons}
-use Rattle.bl_code.specs.Numbers.{varint, varint32, varint64, slice}
+use Rattle.bl_code.specs.Numbers.{varint32, varint64, slice}
 use Rattle.bl_code.specs.Order.{number_part}
 use Rattle.bl_code.specs.Reading.{Input, Read, from_start, take_slice, take_varint32, take_varint64, or_fault, ◌>>=◌}
 use Rattle.bl_code.proofs.ReadingLemmas.{varint32_again, varint64_again, slice_again}
@@ -14,13 +14,12 @@ use Rattle.bl_edit.specs.declared.edit.DeletedTable.{DeletedTable}
 use Rattle.bl_edit.specs.declared.edit.NewTable.{NewTable}
 use Rattle.bl_edit.specs.declared.edit.BlobAddition.{BlobAddition}
 use Rattle.bl_edit.specs.declared.edit.BlobGarbage.{BlobGarbage}
-use Rattle.bl_edit.specs.declared.error.BadEdit.{BadEdit}
 use Rattle.bl_edit.specs.declared.error.BadEdit.TheVariants.{At}
 use Rattle.bl_edit.specs.Options.{Values, AreInRange, IsBetween, is_between, max_size}
 use Rattle.bl_edit.specs.Bounds.{deletion_fits, table_fits, addition_fits, garbage_fits, is_level, is_number, is_key, is_kind, is_seq, IsEdit, FitsWords}
 use Rattle.bl_edit.specs.Laws.{ReadsWritten}
-use Rattle.bl_edit.specs.Spelling.{comparator_name, comparator_bytes, single, option_bytes, options_bytes, deleted_bytes, oldest_bytes, table_bytes, addition_bytes, garbage_bytes, singles_bytes, lists_bytes, edit_bytes}
-use Rattle.bl_edit.specs.Reading.{◌then◌, only_if, to_the_end, is_comparator, as_field, between, values_at, values_in, comparator_at, options_at, deleted_at, table_at, addition_at, garbage_at, counts_at, oldest_at, behind_customs, custom_of, file_in, field_at, fields_at, no_field, read_edit, with_field, Field, Comparator, LogNumber, NextFile, LastSequence, Fixed, Deleted, Added, Blob, Garbage, Passed}
+use Rattle.bl_edit.specs.Spelling.{comparator_name, comparator_bytes, single, option_bytes, options_bytes, deleted_bytes, oldest_bytes, table_bytes, addition_bytes, garbage_bytes, edit_bytes}
+use Rattle.bl_edit.specs.Reading.{only_if, to_the_end, is_comparator, as_field, between, values_at, comparator_at, options_at, deleted_at, table_at, addition_at, garbage_at, counts_at, oldest_at, behind_customs, file_in, field_at, fields_at, no_field, read_edit, with_field, Field, Comparator, LogNumber, NextFile, LastSequence, Fixed, Deleted, Added, Blob, Garbage}
 use Rattle.bl_edit.proofs.Appending.{options_size, varint_size}
 use Rattle.bl_edit.proofs.Customs.{goes_start, goes_end, goes_more, passes_start, passes_end}
 use Rattle.bl_edit.proofs.Fields.{fields_end, fields_some, tag_with, field_with}

@@ -1,5 +1,5 @@
 -- Reading edits: fields one after the other to the last byte, and the first field that is none.
-use Rattle.std.specs.Prelude.{◌≡◌, nat_eq, ℕ, zero, suc, ◌/◌, ◌%◌, ◌^◌, ◌==◌, ◌&&◌, Bool, true, false, List, [], ◌∷◌, ◌++◌, length, Option, None, Some, option_and_then, Result, Ok, Err, if◌then◌else◌}
+use Rattle.std.specs.Prelude.{◌≡◌, nat_eq, ℕ, zero, suc, ◌/◌, ◌%◌, ◌^◌, ◌==◌, Bool, true, false, List, [], ◌∷◌, ◌++◌, length, Option, None, Some, option_and_then, Result, Ok, Err, if◌then◌else◌}
 use Rattle.std.specs.Cmp.Lexicographic.{pointwise}
 use Rattle.bl_code.specs.Reading.{Input, Read, from_start, take_varint32, take_varint64, take_slice, or_fault, ◌>>=◌}
 use Rattle.bl_edit.specs.Options.{Values, max_size, is_between}

@@ -1,9 +1,10 @@
 //! Spelling of edits.
 
-ghost use Rattle.std.specs.Prelude.{◌≡◌, ◌++◌, flat_map, IfOk, OnOk, IsTrue};
+ghost use Rattle.std.specs.Prelude.{◌≡◌, ◌++◌, ◌<◌, ◌^◌, flat_map, IfOk, IfSome, OnOk, Ok, IsTrue};
 ghost use Rattle.std.specs.List.{AllByRecursion};
 ghost use Rattle.bl_code.specs.Numbers.{varint64};
 ghost use Rattle.bl_edit.specs.Bounds.{IsEdit, table_fits};
+ghost use Rattle.bl_edit.specs.Reading.{read_edit};
 ghost use Rattle.bl_edit.specs.Spelling.{addition_bytes, comparator_bytes, deleted_bytes, edit_bytes, garbage_bytes, oldest_bytes, option_bytes, options_bytes, single, singles_bytes, table_bytes};
 
 use crate::edit::{BlobAddition, BlobGarbage, DeletedTable, Edit, NewTable};
@@ -17,7 +18,8 @@ use std::alloc::Global;
 /// in its order.
 pub fn encode_edit(alloc: Global, edit: &Edit) -> Result<Octets, EditErr>
     requires { IsEdit edit.now }
-    ensures { IfOk result (λ bytes. bytes ≡ edit_bytes edit.now) }
+    ensures bytes { IfOk result (λ bytes. bytes ≡ edit_bytes edit.now) }
+    ensures reads { IfOk result (λ bytes. read_edit bytes ≡ Ok edit.now) }
 {
     let mut bytes = Vec::new(alloc);
     put_singles(alloc, &mut bytes, edit)?;
@@ -29,7 +31,9 @@ pub fn encode_edit(alloc: Global, edit: &Edit) -> Result<Octets, EditErr>
 }
 
 fn put_singles(alloc: Global, to: &mut Vec<u8>, edit: &Edit) -> Result<(), EditErr>
-    ensures { OnOk result (to.new.items ≡ to.old.items ++ singles_bytes edit.now) }
+    ensures bytes { OnOk result (to.new.items ≡ to.old.items ++ singles_bytes edit.now) }
+    ensures log_number { OnOk result (IfSome edit.now.log_number (λ n. n < 2 ^ 64)) }
+    ensures next_file { OnOk result (IfSome edit.now.next_file (λ n. n < 2 ^ 64)) }
 {
     put_comparator(to, edit.comparator)?;
     put_number(to, tag::LOG_NUMBER, edit.log_number)?;
@@ -50,7 +54,8 @@ fn put_comparator(to: &mut Vec<u8>, given: bool) -> Result<(), EditErr>
 }
 
 fn put_number(to: &mut Vec<u8>, tag: u32, number: Option<u64>) -> Result<(), EditErr>
-    ensures { OnOk result (to.new.items ≡ to.old.items ++ single tag varint64 number) }
+    ensures bytes { OnOk result (to.new.items ≡ to.old.items ++ single tag varint64 number) }
+    ensures small { IfSome number (λ n. n < 2 ^ 64) }
 {
     if let Some(number) = number {
         put_varint32(to, tag)?;
@@ -99,7 +104,8 @@ fn put_deleted(to: &mut Vec<u8>, deleted: &[DeletedTable]) -> Result<(), EditErr
 
 fn put_added(alloc: Global, to: &mut Vec<u8>, added: &[NewTable]) -> Result<(), EditErr>
     requires { AllByRecursion (λ t. IsTrue (table_fits t)) added.now }
-    ensures { OnOk result (to.new.items ≡ to.old.items ++ flat_map table_bytes added.now) }
+    ensures bytes { OnOk result (to.new.items ≡ to.old.items ++ flat_map table_bytes added.now) }
+    ensures sizes { OnOk result (AllByRecursion (λ t. t.size < 2 ^ 64) added.now) }
 {
     for table in added {
         put_table(alloc, to, table)?;
@@ -109,7 +115,8 @@ fn put_added(alloc: Global, to: &mut Vec<u8>, added: &[NewTable]) -> Result<(), 
 
 fn put_table(alloc: Global, to: &mut Vec<u8>, table: &NewTable) -> Result<(), EditErr>
     requires { IsTrue (table_fits table.now) }
-    ensures { OnOk result (to.new.items ≡ to.old.items ++ table_bytes table.now) }
+    ensures bytes { OnOk result (to.new.items ≡ to.old.items ++ table_bytes table.now) }
+    ensures size { OnOk result (table.now.size < 2 ^ 64) }
 {
     put_varint32(to, tag::ADDED)?;
     put_varint32(to, table.level)?;
@@ -137,7 +144,8 @@ fn put_oldest(alloc: Global, to: &mut Vec<u8>, file: u64) -> Result<(), EditErr>
 }
 
 fn put_blobs(to: &mut Vec<u8>, blobs: &[BlobAddition]) -> Result<(), EditErr>
-    ensures { OnOk result (to.new.items ≡ to.old.items ++ flat_map addition_bytes blobs.now) }
+    ensures bytes { OnOk result (to.new.items ≡ to.old.items ++ flat_map addition_bytes blobs.now) }
+    ensures totals { OnOk result (AllByRecursion (λ b. (b.count < 2 ^ 64) × (b.bytes < 2 ^ 64)) blobs.now) }
 {
     for blob in blobs {
         put_blob(to, blob)?;
@@ -146,7 +154,8 @@ fn put_blobs(to: &mut Vec<u8>, blobs: &[BlobAddition]) -> Result<(), EditErr>
 }
 
 fn put_blob(to: &mut Vec<u8>, blob: &BlobAddition) -> Result<(), EditErr>
-    ensures { OnOk result (to.new.items ≡ to.old.items ++ addition_bytes blob.now) }
+    ensures bytes { OnOk result (to.new.items ≡ to.old.items ++ addition_bytes blob.now) }
+    ensures small { OnOk result ((blob.now.count < 2 ^ 64) × (blob.now.bytes < 2 ^ 64)) }
 {
     put_varint32(to, tag::BLOB)?;
     put_varint64(to, blob.number)?;
@@ -160,14 +169,23 @@ fn put_blob(to: &mut Vec<u8>, blob: &BlobAddition) -> Result<(), EditErr>
 }
 
 fn put_garbage(to: &mut Vec<u8>, garbage: &[BlobGarbage]) -> Result<(), EditErr>
-    ensures { OnOk result (to.new.items ≡ to.old.items ++ flat_map garbage_bytes garbage.now) }
+    ensures bytes { OnOk result (to.new.items ≡ to.old.items ++ flat_map garbage_bytes garbage.now) }
+    ensures totals { OnOk result (AllByRecursion (λ g. (g.count < 2 ^ 64) × (g.bytes < 2 ^ 64)) garbage.now) }
 {
     for file in garbage {
-        put_varint32(to, tag::GARBAGE)?;
-        put_varint64(to, file.number)?;
-        put_varint64(to, file.count)?;
-        put_varint64(to, file.bytes)?;
-        put_varint32(to, tag::BLOB_END)?;
+        put_file_garbage(to, file)?;
     }
+    Ok(())
+}
+
+fn put_file_garbage(to: &mut Vec<u8>, file: &BlobGarbage) -> Result<(), EditErr>
+    ensures bytes { OnOk result (to.new.items ≡ to.old.items ++ garbage_bytes file.now) }
+    ensures small { OnOk result ((file.now.count < 2 ^ 64) × (file.now.bytes < 2 ^ 64)) }
+{
+    put_varint32(to, tag::GARBAGE)?;
+    put_varint64(to, file.number)?;
+    put_varint64(to, file.count)?;
+    put_varint64(to, file.bytes)?;
+    put_varint32(to, tag::BLOB_END)?;
     Ok(())
 }

@@ -1,4 +1,4 @@
-use Rattle.std.proofs.Common.{◌≡◌, ◌<◌, length, refl, ap, arith, sym, ◌∙◌}
+use Rattle.std.proofs.Common.{◌<◌, length, arith}
 use Rattle.bl_edit.specs.Found.{field_of}
 use Rattle.bl_edit.proofs.Fields.{goes_start, goes_cut, goes_fault, goes_more, goes_end, field_less}
 use Rattle.bl_edit.proofs.InBounds.{reads_in_bounds}

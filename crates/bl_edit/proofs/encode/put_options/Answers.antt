@@ -1,4 +1,4 @@
-use Rattle.std.proofs.Common.{ap, arith, length, ◌∙◌}
+use Rattle.std.proofs.Common.{ap, arith, length}
 use Rattle.bl_edit.proofs.Appending.{options_size}
 use Rattle.bl_edit.proofs.encode.put_options.Goals as goal
 

@@ -1,8 +1,8 @@
 use Rattle.std.proofs.Common.{append_assoc}
 use Rattle.bl_edit.proofs.encode.put_table.Goals as goal
 
-pub returns : goal.returns
-returns c =
+pub returns-clause-bytes : goal.returns-clause-bytes
+returns-clause-bytes c =
     rw (
       c.in_ok-put_varint32-3.ensures.ok,
       c.in_ok-put_oldest.ensures,
