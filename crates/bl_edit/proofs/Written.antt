@@ -51,8 +51,11 @@ field_goes : (tag : ℕ) (content : List ℕ) (f : Field) (e : Edit) (rest : Lis
     → GoesOn e ((varint32 tag ++ content) ++ rest) (with_field e f) rest
 field_goes tag content f e rest small is place zero enough =
     let t : take_varint32 (at place (varint32 tag ++ (content ++ rest))) ≡ Some (tag, at (place + length (varint32 tag)) (content ++ rest)) = varint32_again tag place (content ++ rest) small in
-    absurd (omega (arith, varint32_less (at place (varint32 tag ++ (content ++ rest))) (tag, at (place + length (varint32 tag)) (content ++ rest)) t,
-    ap length (append_assoc (varint32 tag) content rest)))
+    absurd (omega (
+      arith,
+      varint32_less (at place (varint32 tag ++ (content ++ rest))) (tag, at (place + length (varint32 tag)) (content ++ rest)) t,
+      ap length (append_assoc (varint32 tag) content rest),
+    ))
 field_goes tag content f e rest small is place (suc n) enough =
     let left : List ℕ = varint32 tag ++ (content ++ rest) in
     let mid : Input = at (place + length (varint32 tag)) (content ++ rest) in
@@ -60,15 +63,14 @@ field_goes tag content f e rest small is place (suc n) enough =
     let c = is.at_place (place + length (varint32 tag)) rest in
     let shorter = varint32_less (at place left) (tag, mid) t in
     let no_longer = field_left tag mid (f, at c.0 rest) c.1 in
-    let size : length ((varint32 tag ++ content) ++ rest) ≡ length left = ap length (append_assoc (varint32 tag) content rest) in
-    (
+    let size : length ((varint32 tag ++ content) ++ rest) ≡ length left = ap length (append_assoc (varint32 tag) content rest) in (
       c.0,
       n,
       omega arith,
       ap (λ xs. fields_at (suc n) e (at place xs)) (append_assoc (varint32 tag) content rest)
-      ∙ fields_some n e (at place left) (omega arith)
-      ∙ ap (λ r. or_fault (At 0 place) r >>= tag_with n e place) t
-      ∙ ap (λ r. or_fault (At tag place) r >>= field_with n e) c.1,
+          ∙ fields_some n e (at place left) (omega arith)
+          ∙ ap (λ r. or_fault (At 0 place) r >>= tag_with n e place) t
+          ∙ ap (λ r. or_fault (At tag place) r >>= field_with n e) c.1,
     )
 
 -- ---- the contents of fields
@@ -88,8 +90,7 @@ read_then : {A B : Type 0} (reading : Input → Read A) (f : A × Input → Read
 read_then reading f xs ys x y is k = record {
   at_place = λ place rest.
       let first = is.at_place place (ys ++ rest) in
-      let second = k.at_place first.0 rest in
-      (
+      let second = k.at_place first.0 rest in (
         second.0,
         ap (λ left. option_and_then f (reading (at place left))) (append_assoc xs ys rest) ∙ ap (option_and_then f) first.1 ∙ second.1,
       );

@@ -69,8 +69,8 @@ options_at input = take_slice input then λ s. values_in s.0 then λ v. Some (v,
 unfoldable pub deleted_at : Input → Read DeletedTable
 deleted_at input =
     only_if deletion_fits (
-      take_varint32 input then λ level. take_varint64 level.1 then λ number.
-      Some (record { level = level.0; number = number.0 }, number.1)
+    take_varint32 input then λ level. take_varint64 level.1 then λ number.
+    Some (record { level = level.0; number = number.0 }, number.1)
     )
 
 -- a custom tag that may not be passed over
@@ -90,7 +90,7 @@ unfoldable pub table_customs : ℕ → ℕ → Input → Read ℕ
 table_customs zero oldest input = None
 table_customs (suc n) oldest input =
     take_varint32 input then λ tag. if tag.0 == 1 then Some (oldest, tag.1)
-        else (take_slice tag.1 then λ content. custom_of oldest tag.0 content.0 then λ known. table_customs n known content.1)
+    else (take_slice tag.1 then λ content. custom_of oldest tag.0 content.0 then λ known. table_customs n known content.1)
 
 -- there are no more of them than bytes
 abbrev pub oldest_at : Input → Read ℕ
@@ -99,22 +99,22 @@ oldest_at input = table_customs (length input.left) 0 input
 unfoldable pub table_at : Input → Read NewTable
 table_at input =
     only_if table_fits (
-      take_varint32 input then λ level. take_varint64 level.1 then λ number. take_varint64 number.1 then λ size.
-      take_slice size.1 then λ smallest. take_slice smallest.1 then λ largest.
-      take_varint64 largest.1 then λ least. take_varint64 least.1 then λ most. oldest_at most.1 then λ oldest.
-      Some (
-        record {
-          level = level.0;
-          number = number.0;
-          size = size.0;
-          smallest = smallest.0;
-          largest = largest.0;
-          least_seq = least.0;
-          most_seq = most.0;
-          oldest_blob = oldest.0;
-        },
-        oldest.1,
-      )
+    take_varint32 input then λ level. take_varint64 level.1 then λ number. take_varint64 number.1 then λ size.
+    take_slice size.1 then λ smallest. take_slice smallest.1 then λ largest.
+    take_varint64 largest.1 then λ least. take_varint64 least.1 then λ most. oldest_at most.1 then λ oldest.
+    Some (
+      record {
+        level = level.0;
+        number = number.0;
+        size = size.0;
+        smallest = smallest.0;
+        largest = largest.0;
+        least_seq = least.0;
+        most_seq = most.0;
+        oldest_blob = oldest.0;
+      },
+      oldest.1,
+    )
     )
 
 -- ---- blob files
@@ -124,7 +124,7 @@ unfoldable pub blob_customs : ℕ → Input → Option Input
 blob_customs zero input = None
 blob_customs (suc n) input =
     take_varint32 input then λ tag. if tag.0 == 0 then Some tag.1
-        else (take_slice tag.1 then λ content. if is_required tag.0 then None else blob_customs n content.1)
+    else (take_slice tag.1 then λ content. if is_required tag.0 then None else blob_customs n content.1)
 
 abbrev pub behind_customs : Input → Option Input
 behind_customs input = blob_customs (length input.left) input
@@ -138,15 +138,15 @@ counts_at input = take_varint64 input then λ number. take_varint64 number.1 the
 unfoldable pub addition_at : Input → Read BlobAddition
 addition_at input =
     only_if addition_fits (
-      counts_at input then λ counts. take_slice counts.1 then λ method. take_slice method.1 then λ checksum. behind_customs checksum.1 then λ behind.
-      Some (record { number = counts.0.0; count = counts.0.1; bytes = counts.0.2 }, behind)
+    counts_at input then λ counts. take_slice counts.1 then λ method. take_slice method.1 then λ checksum. behind_customs checksum.1 then λ behind.
+    Some (record { number = counts.0.0; count = counts.0.1; bytes = counts.0.2 }, behind)
     )
 
 unfoldable pub garbage_at : Input → Read BlobGarbage
 garbage_at input =
     only_if garbage_fits (
-      counts_at input then λ counts. behind_customs counts.1 then λ behind.
-      Some (record { number = counts.0.0; count = counts.0.1; bytes = counts.0.2 }, behind)
+    counts_at input then λ counts. behind_customs counts.1 then λ behind.
+    Some (record { number = counts.0.0; count = counts.0.1; bytes = counts.0.2 }, behind)
     )
 
 -- ---- edits

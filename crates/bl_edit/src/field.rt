@@ -14,12 +14,16 @@ use bl_code::Taker;
 use byteorder::{ByteOrder, LittleEndian};
 
 const MAX_SIZE: u64 = 1 << 40;
+
 const MAX_NUMBER: u64 = 999_999_999_999_999;
+
 const MAX_SEQUENCE: u64 = (1 << 56) - 1;
+
 const MAX_LEVEL: u32 = 6;
 
 // The bytes of an internal key behind the user key.
 const NUMBER_BYTES: usize = 8;
+
 const MAX_KEY_BYTES: usize = 65_543;
 
 /// A new table as its field has it.

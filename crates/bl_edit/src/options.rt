@@ -31,38 +31,38 @@ impl Model for Options {
     ghost Value = { Values };
 
     ghost view = { λ o. record {
-        min_blob_size = o.min_blob_size;
-        blob_file_size = o.blob_file_size;
-        write_buffer = o.write_buffer;
-        table_size = o.table_size;
-        level0_trigger = o.level0_trigger;
-        level_base = o.level_base;
-        level_factor = o.level_factor;
-        age_cutoff = o.age_cutoff;
-        force_threshold = o.force_threshold;
+      min_blob_size = o.min_blob_size;
+      blob_file_size = o.blob_file_size;
+      write_buffer = o.write_buffer;
+      table_size = o.table_size;
+      level0_trigger = o.level0_trigger;
+      level_base = o.level_base;
+      level_factor = o.level_factor;
+      age_cutoff = o.age_cutoff;
+      force_threshold = o.force_threshold;
     } };
 
     ghost invariant = { λ o. AreInRange (record {
-        min_blob_size = o.min_blob_size;
-        blob_file_size = o.blob_file_size;
-        write_buffer = o.write_buffer;
-        table_size = o.table_size;
-        level0_trigger = o.level0_trigger;
-        level_base = o.level_base;
-        level_factor = o.level_factor;
-        age_cutoff = o.age_cutoff;
-        force_threshold = o.force_threshold;
+      min_blob_size = o.min_blob_size;
+      blob_file_size = o.blob_file_size;
+      write_buffer = o.write_buffer;
+      table_size = o.table_size;
+      level0_trigger = o.level0_trigger;
+      level_base = o.level_base;
+      level_factor = o.level_factor;
+      age_cutoff = o.age_cutoff;
+      force_threshold = o.force_threshold;
     }) };
 
     ghost inverse = { λ v. record {
-        min_blob_size = v.min_blob_size;
-        blob_file_size = v.blob_file_size;
-        write_buffer = v.write_buffer;
-        table_size = v.table_size;
-        level0_trigger = v.level0_trigger;
-        level_base = v.level_base;
-        level_factor = v.level_factor;
-        age_cutoff = v.age_cutoff;
-        force_threshold = v.force_threshold;
+      min_blob_size = v.min_blob_size;
+      blob_file_size = v.blob_file_size;
+      write_buffer = v.write_buffer;
+      table_size = v.table_size;
+      level0_trigger = v.level0_trigger;
+      level_base = v.level_base;
+      level_factor = v.level_factor;
+      age_cutoff = v.age_cutoff;
+      force_threshold = v.force_threshold;
     } };
 }

@@ -15,10 +15,10 @@ const FLUSHED: [u8; 44] = [
 
 // Comparator, log number 2, next file number 3, last sequence 0, and the default options.
 const FIRST: [u8; 60] = [
-    1, 26, b'l', b'e', b'v', b'e', b'l', b'd', b'b', b'.', b'B', b'y', b't', b'e', b'w', b'i', b's',
-    b'e', b'C', b'o', b'm', b'p', b'a', b'r', b'a', b't', b'o', b'r', 2, 2, 3, 3, 4, 0, 0x80, 0x48,
-    23, 0, 0x80, 0x80, 0x80, 0x80, 1, 0x80, 0x80, 0x80, 0x20, 0x80, 0x80, 0x80, 0x20, 4, 0x80, 0x80,
-    0x80, 0x80, 1, 10, 25, 100,
+    1, 26, b'l', b'e', b'v', b'e', b'l', b'd', b'b', b'.', b'B', b'y', b't', b'e', b'w', b'i',
+    b's', b'e', b'C', b'o', b'm', b'p', b'a', b'r', b'a', b't', b'o', b'r', 2, 2, 3, 3, 4, 0, 0x80,
+    0x48, 23, 0, 0x80, 0x80, 0x80, 0x80, 1, 0x80, 0x80, 0x80, 0x20, 0x80, 0x80, 0x80, 0x20, 4,
+    0x80, 0x80, 0x80, 0x80, 1, 10, 25, 100,
 ];
 
 #[test]
@@ -60,7 +60,12 @@ fn the_edit_of_a_fresh_folder_is_read_and_written(rt: HostRuntime) -> Result<(),
 #[test]
 fn the_edit_of_a_compaction_is_written(rt: HostRuntime) -> Result<(), Fail> {
     let mut edit = Edit::new(rt.alloc());
-    edit.deleted = Items::from_vec(vec![in rt.alloc(); DeletedTable { level: 1, number: 300 }]?);
+    edit.deleted = Items::from_vec(vec![in rt.alloc();
+        DeletedTable {
+            level: 1,
+            number: 300
+        },
+    ]?);
     edit.garbage.push(BlobGarbage {
         number: 5,
         count: 1,
@@ -68,16 +73,31 @@ fn the_edit_of_a_compaction_is_written(rt: HostRuntime) -> Result<(), Fail> {
     })?;
     edits_are_read();
     let bytes = encode_edit(rt.alloc(), &edit)?;
-    assert_eq!(rt; bytes.as_slice(), [6, 1, 0xAC, 2, 0x91, 3, 5, 1, 34, 0].as_slice());
+    assert_eq!(rt;
+        bytes.as_slice(),
+        [6, 1, 0xAC, 2, 0x91, 3, 5, 1, 34, 0].as_slice()
+    );
     Ok(())
 }
 
 #[test]
 fn damaged_edits_are_refused(rt: HostRuntime) {
-    assert_eq!(rt; decode_edit(rt.alloc(), &[5, 0]).err(), Some(BadEdit::At(5, 0)));
-    assert_eq!(rt; decode_edit(rt.alloc(), &[6, 7, 4]).err(), Some(BadEdit::At(6, 0)));
-    assert_eq!(rt; decode_edit(rt.alloc(), &FLUSHED[..43]).err(), Some(BadEdit::At(400, 36)));
-    assert_eq!(rt; decode_edit(rt.alloc(), &[2, 3, 0x90]).err(), Some(BadEdit::At(0, 2)));
+    assert_eq!(rt;
+        decode_edit(rt.alloc(), &[5, 0]).err(),
+        Some(BadEdit::At(5, 0))
+    );
+    assert_eq!(rt;
+        decode_edit(rt.alloc(), &[6, 7, 4]).err(),
+        Some(BadEdit::At(6, 0))
+    );
+    assert_eq!(rt;
+        decode_edit(rt.alloc(), &FLUSHED[..43]).err(),
+        Some(BadEdit::At(400, 36))
+    );
+    assert_eq!(rt;
+        decode_edit(rt.alloc(), &[2, 3, 0x90]).err(),
+        Some(BadEdit::At(0, 2))
+    );
     let tables = Items::<DeletedTable>::new(rt.alloc());
     assert!(rt; tables.as_slice().is_empty());
 }

@@ -13,7 +13,7 @@ put_table-requires c =
 pub loop-table-preserved : goal.loop-table-preserved
 loop-table-preserved c = record {
   bytes = more_bytes table_bytes c.args.added.now c.loop-table.table-index c.table-item.result c.table-item.result c.args.to.now.items c.loop-table.to.items c.put_table.new.to.items c.loop-table-test.true c.table-item.is c.loop-table.invariant.bytes
-  c.in_ok-put_table.ensures.bytes;
+      c.in_ok-put_table.ensures.bytes;
   small = more_all (λ (t : NewTable). t.size < 2 ^ 64) c.args.added.now c.loop-table.table-index c.table-item.result c.table-item.result c.loop-table-test.true c.table-item.is c.loop-table.invariant.small
-  c.in_ok-put_table.ensures.size;
+      c.in_ok-put_table.ensures.size;
 }

@@ -10,7 +10,7 @@ loop-blob-preserved c =
     let item : BlobAddition = get_or c.args.blobs.now c.loop-blob.blob-index none in
     record {
       bytes = more_bytes addition_bytes c.args.blobs.now c.loop-blob.blob-index item none c.args.to.now.items c.loop-blob.to.items c.put_blob.new.to.items c.loop-blob-test.true refl c.loop-blob.invariant.bytes
-      c.in_ok-put_blob.ensures.bytes;
+          c.in_ok-put_blob.ensures.bytes;
       small = more_all (λ (x : BlobAddition). (x.count < 2 ^ 64) × (x.bytes < 2 ^ 64)) c.args.blobs.now c.loop-blob.blob-index item none c.loop-blob-test.true refl c.loop-blob.invariant.small
-      c.in_ok-put_blob.ensures.small;
+          c.in_ok-put_blob.ensures.small;
     }

@@ -10,7 +10,7 @@ loop-file-preserved c =
     let item : BlobGarbage = get_or c.args.garbage.now c.loop-file.file-index none in
     record {
       bytes = more_bytes garbage_bytes c.args.garbage.now c.loop-file.file-index item none c.args.to.now.items c.loop-file.to.items c.put_file_garbage.new.to.items c.loop-file-test.true refl c.loop-file.invariant.bytes
-      c.in_ok-put_file_garbage.ensures.bytes;
+          c.in_ok-put_file_garbage.ensures.bytes;
       small = more_all (λ (x : BlobGarbage). (x.count < 2 ^ 64) × (x.bytes < 2 ^ 64)) c.args.garbage.now c.loop-file.file-index item none c.loop-file-test.true refl c.loop-file.invariant.small
-      c.in_ok-put_file_garbage.ensures.small;
+          c.in_ok-put_file_garbage.ensures.small;
     }
