@@ -1,5 +1,5 @@
 // What can go wrong on the host, and how it is counted.
-ghost use Rattle.std.specs.Prelude.{◌≡◌, IfErr, IsErr, IsErrOf, IsTrue};
+ghost use Rattle.std.specs.Prelude.{◌≡◌, ◌⊎◌, Ok, Err, IfErr, IsErr, IsErrOf, IsTrue, MatchResult};
 ghost use Rattle.bl_site.specs.Causes.{HasDiskCause};
 ghost use Rattle.bl_site.specs.declared.site.SiteErr.TheVariants.{OutOfMemory};
 ghost use Rattle.bl_site_host.specs.Faults.{IsCounted};
@@ -50,7 +50,8 @@ impl<T: Drop> From<AllocFailed<T>> for Fault {
 
 // Of a call that may have changed something: it is never for want of memory.
 pub(crate) fn changed<T: Drop>(done: io::Result<T>) -> Result<T, Fault>
-    ensures { IfErr result (λ fault. fault ≡ Disk) }
+    ensures answered { MatchResult done (λ value. result ≡ Ok value) (λ _. result ≡ Err Disk) }
+    ensures disk { IfErr result (λ fault. fault ≡ Disk) }
 {
     match done {
         Ok(value) => Ok(value),
@@ -79,6 +80,7 @@ pub(crate) fn counted<T: Drop>(faults: &mut u64, done: Result<T, Fault>) -> Resu
 pub(crate) fn synced(lost: &mut bool, done: io::Result<()>) -> Result<(), Fault>
     ensures for_good { IsTrue lost.old → IsErr result }
     ensures marked { IsErr result → IsTrue lost.new }
+    ensures only { IsTrue lost.new → (IsTrue lost.old ⊎ IsErr done) }
     ensures disk { IfErr result (λ fault. fault ≡ Disk) }
 {
     if done.is_err() {
