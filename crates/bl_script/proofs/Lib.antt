@@ -1,3 +1,4 @@
+mod LimitLemmas
 mod OperationLemmas
 mod PrintLemmas
 mod Rows

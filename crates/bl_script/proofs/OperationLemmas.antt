@@ -1,11 +1,10 @@
 -- Operations of a batch, word by word.
-use Rattle.std.proofs.Common.{◌≡◌, ℕ, ◌<◌, Bool, true, false, cond, ◌||◌, List, [], ◌∷◌, ◌++◌, length, map, flat_map, Option, None, Some, refl, sym, ◌∙◌, ap, append_assoc, append-nil}
+use Rattle.std.proofs.Common.{◌≡◌, ℕ, true, false, List, [], ◌∷◌, ◌++◌, Option, None, Some, refl, sym, ◌∙◌, ap, append_assoc, append-nil}
 use Rattle.std.specs.Option.{option_map}
 use Rattle.std.specs.Prelude.{codes, option_and_then}
 use Rattle.percent_encoding.specs.Percent.{percent_decode}
 use Rattle.bl_script.specs.declared.command.Operation.{Operation}
 use Rattle.bl_script.specs.declared.command.Operation.TheVariants as op
-use Rattle.bl_script.specs.declared.command.Command.{Command}
 use Rattle.bl_script.specs.declared.command.Command.TheVariants.{Batch}
 use Rattle.bl_script.specs.Parsing.{is, value, operations, batch_of}
 

@@ -1,8 +1,8 @@
 -- Worked rows: what some lines order, and the texts of some replies.
-use Rattle.std.proofs.Common.{◌≡◌, ℕ, List, [], ◌∷◌, codes, Some, None, refl}
+use Rattle.std.proofs.Common.{◌≡◌, [], ◌∷◌, codes, Some, None, refl}
 use Rattle.percent_encoding.specs.Percent.{percent_decode, percent_encode_byte}
 use Rattle.bl_script.specs.declared.command.Operation.TheVariants as op
-use Rattle.bl_script.specs.declared.command.Command.TheVariants.{Put, Del, Batch, Get, Scan, Reopen}
+use Rattle.bl_script.specs.declared.command.Command.TheVariants.{Put, Batch, Get, Scan, Reopen}
 use Rattle.bl_script.specs.declared.command.Refusal.TheVariants as refused
 use Rattle.bl_script.specs.declared.command.Parsed.TheVariants.{Nothing, Refused, Go}
 use Rattle.bl_script.specs.Lines.{lines, lines_in, whole_lines, whole_lines_in, words_in}

@@ -1,3 +1,4 @@
 pub mod Lines
 pub mod Parsing
 pub mod Printing
+pub mod Limits

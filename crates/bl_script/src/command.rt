@@ -70,6 +70,8 @@ pub enum Command {
         from: Option<Octets>,
         to: Option<Octets>,
     },
+    /// `sync`: all accepted batches are durable.
+    Sync,
     /// `reopen`: the store is opened anew.
     Reopen,
 }

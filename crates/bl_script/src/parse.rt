@@ -6,6 +6,7 @@ ghost use Rattle.std.specs.Option.{option_map};
 ghost use Rattle.percent_encoding.specs.Percent.{percent_decode as decoded};
 ghost use Rattle.bl_script.specs.Lines.{words};
 ghost use Rattle.bl_script.specs.Parsing.{is, value, bound, operations, batch_of, scan_of, with_none, with_one, with_two, fixed_of, command_of, allowed, parsed, is_long_key, is_long_bound, puts_long_key, puts_long_value, has_long_key, has_long_value};
+ghost use Rattle.bl_script.specs.Limits.{IsWithinLimits, ParsedAreWithinLimits};
 
 use crate::command::{Command, Operation, Operations, Parsed, Refusal};
 use crate::error::ScriptErr;
@@ -162,6 +163,18 @@ fn batch_from(alloc: Global, rest: &[u8]) -> Result<Option<Command>, ScriptErr>
     }
 }
 
+fn command_alone(verb: &[u8]) -> Option<Command>
+    ensures { result ≡ with_none verb.now }
+{
+    if verb == b"sync".as_slice() {
+        Some(Command::Sync)
+    } else if verb == b"reopen".as_slice() {
+        Some(Command::Reopen)
+    } else {
+        None
+    }
+}
+
 fn command_with_one(alloc: Global, verb: &[u8], word: &[u8]) -> Result<Option<Command>, ScriptErr>
     ensures { IfOk result (λ r. r ≡ with_one verb.now word.now) }
 {
@@ -202,11 +215,7 @@ fn fixed_from(alloc: Global, verb: &[u8], rest: &[u8]) -> Result<Option<Command>
     ensures { IfOk result (λ r. r ≡ fixed_of verb.now (words rest.now)) }
 {
     let Some((first, behind_first)) = next_word(rest) else {
-        return Ok(if verb == b"reopen".as_slice() {
-            Some(Command::Reopen)
-        } else {
-            None
-        });
+        return Ok(command_alone(verb));
     };
     let Some((second, behind_second)) = next_word(behind_first) else {
         return command_with_one(alloc, verb, first);
@@ -286,6 +295,7 @@ fn has_long_key(command: &Command) -> bool
         Command::Get { key } => is_long_key(key),
         Command::Batch { operations } => some_long_key(operations.as_slice()),
         Command::Scan { from, to } => is_long_bound(from) || is_long_bound(to),
+        Command::Sync => false,
         Command::Reopen => false,
     }
 }
@@ -299,6 +309,7 @@ fn has_long_value(command: &Command) -> bool
         Command::Del { key: _ } => false,
         Command::Get { key: _ } => false,
         Command::Scan { from: _, to: _ } => false,
+        Command::Sync => false,
         Command::Reopen => false,
     }
 }
@@ -316,14 +327,21 @@ fn within_limits(command: Command) -> Parsed
     }
 }
 
+/// What a line orders is within the limits on keys, values and batches.
+pub fn parsed_are_within_limits()
+    ensures { ParsedAreWithinLimits }
+{}
+
 /// What a line orders, without its end and a 0x0D before it. Of the refusals `Long`, `Syntax`, `Key` and `Value` the first that
-/// applies is answered.
+/// applies is answered, and a command is within the limits.
 ///
 /// Errors: `OutOfMemory` alone.
 #[tactic(auto, unfolding(crate::specs::Parsing::parsed))]
 pub fn parse_line(alloc: Global, line: &[u8]) -> Result<Parsed, ScriptErr>
-    ensures { IfOk result (λ p. p ≡ parsed line.now) }
+    ensures parsed { IfOk result (λ p. p ≡ parsed line.now) }
+    ensures within { IfOk result IsWithinLimits }
 {
+    parsed_are_within_limits();
     if line.len() > MAX_LINE {
         return Ok(Parsed::Refused(Refusal::Long));
     }

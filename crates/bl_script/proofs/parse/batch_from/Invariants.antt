@@ -1,4 +1,4 @@
-use Rattle.std.proofs.Common.{◌≡◌, ◌++◌, length, [], ◌⊎◌, ◌<◌}
+use Rattle.std.proofs.Common.{◌≡◌, ◌++◌, length, []}
 use Rattle.std.specs.Option.{option_map}
 use Rattle.bl_script.specs.Lines.{words}
 use Rattle.bl_script.specs.Parsing.{operations}

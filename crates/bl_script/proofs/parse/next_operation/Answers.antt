@@ -1,7 +1,5 @@
-use Rattle.std.proofs.Common.{◌≡◌, ◌∙◌, ap, sym, Some, ◌∷◌}
-use Rattle.std.specs.Option.{option_map}
+use Rattle.std.proofs.Common.{◌∙◌, sym}
 use Rattle.bl_script.specs.Lines.{words}
-use Rattle.bl_script.specs.Parsing.{operations}
 use Rattle.bl_script.proofs.OperationLemmas.{verb_alone, del_first, other_first, put_alone, no_value, put_first}
 use Rattle.bl_script.proofs.parse.next_operation.Goals as goal
 

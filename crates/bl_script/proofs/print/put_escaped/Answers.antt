@@ -1,5 +1,4 @@
 use Rattle.std.proofs.Common.{◌≡◌, true, ◌∙◌, ap, ◌++◌, refl, string_bytes}
-use Rattle.std.specs.Char.{is_ascii}
 use Rattle.percent_encoding.specs.AsciiSet.{should_percent_encode}
 use Rattle.bl_script.specs.declared.print.TheConstants.{ESCAPED}
 use Rattle.bl_script.proofs.PrintLemmas.{agrees, same, escaped_is}
