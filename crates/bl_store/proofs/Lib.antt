@@ -1,0 +1,13 @@
+mod LogLemmas
+mod BatchLemmas
+mod MapLemmas
+mod EntryLemmas
+mod NumberLemmas
+mod NameLemmas
+mod FolderLemmas
+mod StandLemmas
+mod CarryLemmas
+mod OpenLemmas
+mod OperationLemmas
+mod ReplayLemmas
+mod OnOk

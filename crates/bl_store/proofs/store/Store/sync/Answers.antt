@@ -1,0 +1,36 @@
+use Rattle.std.proofs.Common.{length, ap, subst, Err, inl, inr}
+use Rattle.bl_site.specs.Disk.{Disk}
+use Rattle.bl_wal.specs.LogFile.{LogFile}
+use Rattle.bl_store.specs.Stored.{Stored, map_in, StandsOn, Carries}
+use Rattle.bl_store.proofs.CarryLemmas.{changes}
+use Rattle.bl_store.proofs.FolderLemmas.{sync_keeps}
+use Rattle.bl_store.proofs.store.Store.sync.Goals as goal
+
+pub returns-in-Err-clause-held : goal.returns-in-Err-clause-held
+returns-in-Err-clause-held g c = λ shown older own synced.
+    let old = g.S.Site.disk c.args.site.now in
+    let new = g.S.Site.disk c.sync.new.site in
+    let here : Stored = record { log = c.self.inside.wal; last = c.self.inside.last; now = map_in c.self.inside.map.entries; broken = c.self.inside.broken } in
+    let P : Stored → Type 0 = λ s. Carries s older own synced old → StandsOn c.sync.new.self older own synced s.last new in
+    subst P c.self.view_is (λ carries.
+    changes c.names_one.ensures here.log older own synced here.last old new c.sync.new.self own synced here.last carries.on (ap (λ (l : LogFile). l.number) c.in-Err.ensures.fails)
+    (elim c.in-Err.ensures.causes [
+      | inl d ↦ (c.in-Err.ensures.frayed shown (ap Err d)).puts.others
+      | inr m ↦ λ other ne. ap (λ (d : Disk). d other) (c.in-Err.ensures.keeps shown (ap Err m)).same
+    ]) (c.in-Err.ensures.holds shown own synced carries.on.holds) carries.on.follow)
+
+pub returns-clause-carried : goal.returns-clause-carried
+returns-clause-carried g c = λ shown older own synced.
+    let old = g.S.Site.disk c.args.site.now in
+    let new = g.S.Site.disk c.sync.new.site in
+    let here : Stored = record { log = c.self.inside.wal; last = c.self.inside.last; now = map_in c.self.inside.map.entries; broken = c.self.inside.broken } in
+    let next : Stored = record { log = c.sync.new.self; last = c.self.inside.last; now = map_in c.self.inside.map.entries; broken = c.self.inside.broken } in
+    let P : Stored → Type 0 = λ s. Carries s older own synced old → Carries next older own (length own) new in
+    subst P c.self.view_is (λ carries. record {
+      on = changes c.names_one.ensures here.log older own synced here.last old new c.sync.new.self own (length own) here.last carries.on (ap (λ (l : LogFile). l.number) c.in_default.ensures.stays)
+          (c.in_default.ensures.synced shown).puts.others (c.in_default.ensures.holds shown own synced carries.on.holds) carries.on.follow;
+      now_is = carries.now_is;
+    })
+
+pub returns-clause-reads : goal.returns-clause-reads
+returns-clause-reads g c = λ shown. sync_keeps _ (g.S.Site.disk c.args.site.now) (g.S.Site.disk c.sync.new.site) (c.in_default.ensures.synced shown)

@@ -1,0 +1,36 @@
+-- What holds of the definitions.
+use Rattle.std.specs.Prelude.{◌≡◌, ℕ, ◌≤◌, false, List, ◌++◌, length, take}
+use Rattle.std.specs.FinMap.{empty}
+use Rattle.bl_site.specs.Disk.{Name, Folder, Disk, Cut, IsCut, folder_of}
+use Rattle.bl_entry.specs.Batches.{Batch}
+use Rattle.bl_entry.specs.Revisions.{revisions_of, IsMapAt}
+use Rattle.bl_wal.specs.LogFile.{LogFile}
+use Rattle.bl_wal.specs.Chance.{NoChanceMatch}
+use Rattle.bl_store.specs.Logs.{after_batches, HaveBatches}
+use Rattle.bl_store.specs.Folders.{Stands}
+use Rattle.bl_store.specs.Stored.{StandsOn}
+use Rattle.bl_store.specs.Damage.{IsDamaged}
+
+-- A folder with a fault does not stand.
+abbrev pub DamagedDoNotStand : Type 0
+DamagedDoNotStand = (folder : Folder) (name : Name) (place : ℕ) (batches : List Batch) (last : ℕ) → IsDamaged folder name place → Stands folder batches last → ⊥
+
+-- The logs of a folder hold one list of batches at most.
+abbrev pub BatchesAreOnce : Type 0
+BatchesAreOnce = (folder : Folder) (batches others : List Batch) (last other : ℕ) → HaveBatches folder batches last → HaveBatches folder others other
+    → (batches ≡ others) × (last ≡ other)
+
+-- The batches, written one after another, make the map of the folder.
+abbrev pub BatchesMakeMap : Type 0
+BatchesMakeMap = (folder : Folder) (batches : List Batch) (last : ℕ) → HaveBatches folder batches last → IsMapAt (revisions_of batches) last (after_batches batches empty)
+
+-- A disk that a store stands on is a folder of its batches.
+abbrev pub StoresStand : Type 0
+StoresStand = (log : LogFile) (older own : List Batch) (synced last : ℕ) (disk : Disk) → log.failed ≡ false → StandsOn log older own synced last disk
+    → Stands (folder_of disk) (older ++ own) last
+
+-- Unless a torn fragment's checksum matches by chance, a power cut leaves a folder of the older batches and of the first of its own, at least the synced ones.
+abbrev pub CutsStand : Type 0
+CutsStand = (log : LogFile) (older own : List Batch) (synced last : ℕ) (disk : Disk) (told : List ℕ) (c : Cut) → StandsOn log older own synced last disk
+    → IsCut disk told c → NoChanceMatch c.folder c.written
+    → (count : ℕ) × (synced ≤ count) × (count ≤ length own) × ((left : ℕ) × Stands c.folder (older ++ take count own) left)

@@ -1,0 +1,45 @@
+//! What holds of the definitions: a caller that needs one of these calls it.
+
+ghost use Rattle.bl_store.specs.Laws.{BatchesAreOnce, BatchesMakeMap, CutsStand, DamagedDoNotStand, StoresStand};
+
+use bl_entry::{batches_join, operations_change_the_map};
+use bl_log::placed_records_are_records;
+use bl_wal::{cut_logs_read_as_fronts, logs_are_read, records_are_batches};
+
+/// A folder with a fault does not stand.
+pub fn damaged_do_not_stand()
+    ensures { DamagedDoNotStand }
+{
+    batches_join();
+    placed_records_are_records();
+}
+
+/// The logs of a folder hold one list of batches at most.
+pub fn batches_are_once()
+    ensures { BatchesAreOnce }
+{}
+
+/// The batches, written one after another, make the map of the folder.
+pub fn batches_make_the_map()
+    ensures { BatchesMakeMap }
+{
+    operations_change_the_map();
+}
+
+/// A disk that an unbroken store stands on is a folder of its batches.
+pub fn stores_stand()
+    ensures { StoresStand }
+{
+    batches_join();
+    logs_are_read();
+}
+
+/// Unless a torn fragment's checksum matches by chance, a power cut leaves of a store's disk a folder of the older batches and of the
+/// first ones of the log in use, at least the synced ones.
+pub fn cuts_stand()
+    ensures { CutsStand }
+{
+    batches_join();
+    cut_logs_read_as_fronts();
+    records_are_batches();
+}

@@ -1,0 +1,15 @@
+//! A store: a map in memory whose writes stand in logs. Opening a folder replays them.
+#![tactic(auto)]
+
+mod error;
+mod laws;
+mod memory;
+mod names;
+mod open;
+mod store;
+
+pub use error::StoreErr;
+pub use laws::{
+    batches_are_once, batches_make_the_map, cuts_stand, damaged_do_not_stand, stores_stand,
+};
+pub use store::Store;

@@ -1,0 +1,129 @@
+//! Reading a folder of logs.
+
+ghost use Rattle.std.specs.Prelude.{◌≡◌, ℕ, ◌+◌, ◌-◌, ◌<◌, ◌≤◌, ◌^◌, ◌⊎◌, List, length, IfOk, IfErr, OnOk, IsErrOf, IsSome, Err, All};
+ghost use Rattle.bl_site.specs.Disk.{Name, folder_of};
+ghost use Rattle.bl_site.specs.Calls.{KeepsDisk, Syncs};
+ghost use Rattle.bl_site.specs.Causes.{Rose};
+ghost use Rattle.bl_names.specs.Names.{IsNumber};
+ghost use Rattle.bl_wal.specs.LogFile.{log_name};
+ghost use Rattle.bl_store.specs.Damage.{BreaksAt};
+ghost use Rattle.bl_store.specs.Listing.{AreLogsAbove};
+ghost use Rattle.bl_store.specs.Replaying.{HasReplayed, HasAll};
+ghost use Rattle.bl_store.specs.Stored.{map_in, IsSynced};
+ghost use Rattle.bl_store.specs.Causes.{IsReading, IsSyncing};
+
+use crate::error::StoreErr;
+use crate::memory::put_entries;
+use bl_code::Octets;
+use bl_entry::batches_join;
+use bl_names::{FileName, print_name};
+use bl_site::Site;
+use bl_wal::replay;
+use std::alloc::Global;
+use std::collections::BTreeMap;
+
+/// What the logs of a folder hold.
+#[derive(Drop)]
+pub(crate) struct Memory {
+    pub(crate) map: BTreeMap<Octets, Octets>,
+    /// The last sequence.
+    pub(crate) last: u64,
+    /// The greatest number of a log, or 0.
+    pub(crate) greatest: u64,
+}
+
+// The log of this number is synced.
+fn sync_log<S: Site>(alloc: Global, site: &mut S, number: u64) -> Result<(), StoreErr>
+    requires number { IsNumber number }
+    requires there { S.shows → IsSome (S.disk site.old (log_name number)) }
+    ensures done { S.shows → OnOk result (Syncs (log_name number) (S.disk site.old) (S.disk site.new)) }
+    ensures told { S.shows → S.told site.new ≡ S.told site.old }
+    ensures causes { IfErr result IsSyncing }
+    ensures disk { IsErrOf result StoreErr.Disk → Rose (S.disk_faults site.old) (S.disk_faults site.new) }
+    ensures later { S.disk_faults site.old ≤ S.disk_faults site.new }
+    ensures tell_faults { S.tell_faults site.new ≡ S.tell_faults site.old }
+{
+    let name = print_name(alloc, &FileName::Log(number))?;
+    site.sync(name.as_str())?;
+    Ok(())
+}
+
+/// The logs of these numbers are synced, in order of number.
+pub(crate) fn sync_logs<S: Site>(
+    alloc: Global,
+    site: &mut S,
+    numbers: &[u64],
+) -> Result<(), StoreErr>
+    requires numbers { All IsNumber numbers.now }
+    requires logs { S.shows → AreLogsAbove 0 numbers.now (folder_of (S.disk site.old)) }
+    ensures same { S.shows → OnOk result (folder_of (S.disk site.new) ≡ folder_of (S.disk site.old)) }
+    ensures synced { S.shows → OnOk result ((number : ℕ) → IsNumber number → IsSynced (S.disk site.new (log_name number))) }
+    ensures told { S.shows → S.told site.new ≡ S.told site.old }
+    ensures causes { IfErr result IsSyncing }
+    ensures disk { IsErrOf result StoreErr.Disk → Rose (S.disk_faults site.old) (S.disk_faults site.new) }
+    ensures later { S.disk_faults site.old ≤ S.disk_faults site.new }
+    ensures tell_faults { S.tell_faults site.new ≡ S.tell_faults site.old }
+{
+    for number in numbers {
+        sync_log(alloc, site, *number)?;
+    }
+    Ok(())
+}
+
+// The log of this number is replayed behind those below it.
+fn replay_log<S: Site>(
+    alloc: Global,
+    site: &mut S,
+    number: u64,
+    memory: &mut Memory,
+) -> Result<(), StoreErr>
+    requires { IsNumber number }
+    ensures replayed { S.shows → OnOk result (HasReplayed (folder_of (S.disk site.old)) (number - 1) (map_in memory.old.map.entries) memory.old.last
+        → HasReplayed (folder_of (S.disk site.old)) number (map_in memory.new.map.entries) memory.new.last) }
+    ensures corrupt { S.shows → (name : Name) (place : ℕ) → result ≡ Err (StoreErr.Corrupt name place) → IsSome (folder_of (S.disk site.old) (log_name number))
+        → HasReplayed (folder_of (S.disk site.old)) (number - 1) (map_in memory.old.map.entries) memory.old.last
+        → (name ≡ log_name number) × BreaksAt (folder_of (S.disk site.old)) number place }
+    ensures greatest { OnOk result (memory.new.greatest ≡ number) }
+    ensures stays { S.shows → KeepsDisk S.disk S.may_be S.certain site.old site.new }
+    ensures told { S.shows → S.told site.new ≡ S.told site.old }
+    ensures causes { IfErr result IsReading }
+    ensures disk { IsErrOf result StoreErr.Disk → Rose (S.disk_faults site.old) (S.disk_faults site.new) }
+    ensures later { S.disk_faults site.old ≤ S.disk_faults site.new }
+    ensures tell_faults { S.tell_faults site.new ≡ S.tell_faults site.old }
+{
+    batches_join();
+    let replayed = replay(alloc, site, number, memory.last)?;
+    memory.last = replayed.last;
+    memory.greatest = number;
+    put_entries(&mut memory.map, replayed.entries.into_vec())
+}
+
+/// The logs of these numbers are replayed, in order of number.
+pub(crate) fn replay_logs<S: Site>(
+    alloc: Global,
+    site: &mut S,
+    numbers: &[u64],
+) -> Result<Memory, StoreErr>
+    requires numbers { All IsNumber numbers.now }
+    requires logs { S.shows → AreLogsAbove 0 numbers.now (folder_of (S.disk site.old)) }
+    ensures replayed { S.shows → IfOk result (λ m. HasAll (folder_of (S.disk site.old)) (map_in m.map.entries) m.last m.greatest) }
+    ensures bound { IfOk result (λ m. m.greatest < 10 ^ 15) }
+    ensures corrupt { S.shows → (name : Name) (place : ℕ) → result ≡ Err (StoreErr.Corrupt name place)
+        → (number : ℕ) × (name ≡ log_name number) × BreaksAt (folder_of (S.disk site.old)) number place }
+    ensures stays { S.shows → KeepsDisk S.disk S.may_be S.certain site.old site.new }
+    ensures told { S.shows → S.told site.new ≡ S.told site.old }
+    ensures causes { IfErr result IsReading }
+    ensures disk { IsErrOf result StoreErr.Disk → Rose (S.disk_faults site.old) (S.disk_faults site.new) }
+    ensures later { S.disk_faults site.old ≤ S.disk_faults site.new }
+    ensures tell_faults { S.tell_faults site.new ≡ S.tell_faults site.old }
+{
+    let mut memory = Memory {
+        map: BTreeMap::new(alloc),
+        last: 0,
+        greatest: 0,
+    };
+    for number in numbers {
+        replay_log(alloc, site, *number, &mut memory)?;
+    }
+    Ok(memory)
+}

@@ -1,0 +1,231 @@
+//! The store.
+
+ghost use Rattle.std.specs.Prelude.{◌≡◌, ◌↔◌, ℕ, ◌+◌, ◌-◌, ◌<◌, ◌≤◌, ◌^◌, ◌⊎◌, List, [], ◌∷◌, ◌++◌, ◌&&◌, length, filter, IfOk, IfErr, OnOk, OnErr, IsErrOf, IsTrue, IsSome, Err, true, false};
+ghost use Rattle.std.specs.Option.{option_copied, option_map};
+ghost use Rattle.std.specs.FinMap.{get};
+ghost use Rattle.bl_site.specs.Disk.{Name, folder_of};
+ghost use Rattle.bl_code.specs.Order.{bytes_le, bytes_lt};
+ghost use Rattle.bl_site.specs.Calls.{Appends, AppendsAny, Syncs};
+ghost use Rattle.bl_site.specs.Causes.{Rose};
+ghost use Rattle.bl_wal.specs.LogFile.{log_name};
+ghost use Rattle.bl_wal.specs.Held.{Batches};
+ghost use Rattle.bl_store.specs.Damage.{IsDamaged};
+ghost use Rattle.bl_store.specs.Folders.{Stands};
+ghost use Rattle.bl_store.specs.Pairs.{pairs_between};
+ghost use Rattle.bl_store.specs.Stored.{StandsOn, next_batch, next_record, wrote, Carries, Opens, MayAppend, MayHold};
+ghost use Rattle.bl_store.specs.Causes.{IsOpening, IsWriting, IsEnding, IsRefusal};
+
+use crate::error::StoreErr;
+use crate::memory::put_operations;
+use crate::names::{log_numbers, refuse_others};
+use crate::open::{replay_logs, sync_logs};
+use bl_code::Octets;
+use bl_entry::Batch;
+use bl_names::names_one;
+use bl_site::Site;
+use bl_wal::{Wal, records_are_batches};
+use std::alloc::Global;
+use std::collections::BTreeMap;
+use std::collections::btree_map::Range;
+use std::marker::Model;
+
+// The greatest sequence.
+const MAX_SEQUENCE: u64 = (1 << 56) - 1;
+
+// Files have numbers below this one.
+const FILE_LIMIT: u64 = 1_000_000_000_000_000;
+
+/// An ordered map from keys to values, kept in memory, whose writes stand in a log. A contract sees the log in use, the last
+/// sequence, the map, and whether a writing call has failed.
+#[derive(Drop)]
+pub struct Store {
+    wal: Wal,
+    map: BTreeMap<Octets, Octets>,
+    last: u64,
+    broken: bool,
+}
+
+// The entries from one key to before another: none where the one stands behind the other.
+fn between<'m>(
+    map: &'m BTreeMap<Octets, Octets>,
+    from: &'m Octets,
+    to: &'m Octets,
+) -> Range<'m, Octets, Octets>
+    ensures { result ≡ filter (λ p. bytes_le from.now p.0 && bytes_lt p.0 to.now) map.now.entries }
+{
+    if to < from {
+        map.range(from..from)
+    } else {
+        map.range(from..to)
+    }
+}
+
+impl Model for Store {
+    ghost use Rattle.std.specs.Prelude.{◌≡◌, false};
+    ghost use Rattle.bl_store.specs.Stored.{Stored, map_in, stored_code};
+
+    ghost Value = { Stored };
+
+    ghost coded = { stored_code };
+
+    ghost view = { λ s. record { log = s.wal; last = s.last; now = map_in s.map.entries; broken = s.broken } };
+
+    // A store that is not broken can write to its log.
+    ghost invariant = { λ s. s.broken ≡ false → s.wal.failed ≡ false };
+}
+
+impl Store {
+    /// Opens the folder: syncs its logs in order of number, replays them, and makes the next log.
+    ///
+    /// Errors: `Corrupt` exactly where the folder holds a file of a store that is no log, then of the first such name and at
+    /// place 0, or else where a log holds a record that is no batch or does not begin behind the last sequence, then of the
+    /// first such log and at the place behind the record; `Full` with 10^15 exactly where the next log would have this
+    /// number; `Disk`; `OutOfMemory`.
+    pub fn open_site<S: Site>(alloc: Global, site: &mut S) -> Result<Store, StoreErr>
+        ensures opened { S.shows → IfOk result (λ store. Opens (folder_of (S.disk site.old)) store (S.disk site.new)) }
+        ensures certain { S.shows → OnOk result (S.certain site.new) }
+        ensures usable { IfOk result (λ store. store.broken ≡ false) }
+        ensures corrupt { S.shows → (name : Name) (place : ℕ) → result ≡ Err (StoreErr.Corrupt name place) → IsDamaged (folder_of (S.disk site.old)) name place }
+        ensures full { S.shows → (number : ℕ) → result ≡ Err (StoreErr.Full number) → (number ≡ 10 ^ 15) × IsSome (folder_of (S.disk site.old) (log_name (10 ^ 15 - 1)))
+            × ((batches : Batches) × ((last : ℕ) × Stands (folder_of (S.disk site.old)) batches last)) }
+        ensures same { S.shows → IfErr result (λ e. IsRefusal e → folder_of (S.disk site.new) ≡ folder_of (S.disk site.old)) }
+        ensures told { S.shows → S.told site.new ≡ S.told site.old }
+        ensures causes { IfErr result IsOpening }
+        ensures disk { IsErrOf result StoreErr.Disk → Rose (S.disk_faults site.old) (S.disk_faults site.new) }
+        ensures later { S.disk_faults site.old ≤ S.disk_faults site.new }
+        ensures tell_faults { S.tell_faults site.new ≡ S.tell_faults site.old }
+    {
+        let names = site.list(alloc)?;
+        refuse_others(alloc, names.as_slice())?;
+        let numbers = log_numbers(alloc, names.as_slice())?;
+        sync_logs(alloc, site, &numbers)?;
+        let memory = replay_logs(alloc, site, &numbers)?;
+        let number = (memory.greatest + 1).max(2);
+        if number == FILE_LIMIT {
+            return Err(StoreErr::Full(number));
+        }
+        names_one();
+        let wal = Wal::create(alloc, site, number)?;
+        Ok(Store {
+            wal,
+            map: memory.map,
+            last: memory.last,
+            broken: false,
+        })
+    }
+
+    /// Writes a batch: to the log, as one record, and then to the map. Its operations take the next sequences.
+    ///
+    /// Errors: `Broken` exactly where a writing call has failed before; else `Full` with the last sequence exactly where the
+    /// batch would pass sequence 2^56 - 1; `Disk`, after which some bytes may follow in the log; `OutOfMemory`. After `Broken`
+    /// and `Full` nothing has changed.
+    pub fn write<S: Site>(
+        &mut self,
+        alloc: Global,
+        site: &mut S,
+        batch: &Batch,
+    ) -> Result<(), StoreErr>
+        requires there { S.shows → IsSome (S.disk site.old (log_name self.old.log.number)) }
+        ensures written { OnOk result (self.new ≡ wrote self.old batch.now) }
+        ensures appended { S.shows → OnOk result (Appends (log_name self.old.log.number) (next_record self.old batch.now) (next_record self.old batch.now) (S.disk site.old) (S.disk site.new)) }
+        ensures carried { S.shows → OnOk result ((older own : Batches) (synced : ℕ) → Carries self.old older own synced (S.disk site.old)
+            → Carries self.new older (own ++ next_batch self.old batch.now ∷ []) synced (S.disk site.new)) }
+        ensures held { S.shows → OnErr result ((older own : Batches) (synced : ℕ) → Carries self.old older own synced (S.disk site.old)
+            → MayHold self.old self.new batch.now older own synced (S.disk site.new)) }
+        ensures broken { (result ≡ Err StoreErr.Broken) ↔ (self.old.broken ≡ true) }
+        ensures full { (last : ℕ) → result ≡ Err (StoreErr.Full last) → (last ≡ self.old.last) × (2 ^ 56 ≤ last + length batch.now) }
+        ensures fits { OnOk result (self.old.last + length batch.now < 2 ^ 56) }
+        ensures refused { IfErr result (λ e. IsRefusal e → (self.new ≡ self.old) × (site.new ≡ site.old)) }
+        ensures stays { OnErr result (self.new.broken ≡ false → self.new ≡ self.old) }
+        ensures torn { S.shows → OnErr result (MayAppend (log_name self.old.log.number) (next_record self.old batch.now) (S.disk site.old) (S.disk site.new)) }
+        ensures told { S.shows → S.told site.new ≡ S.told site.old }
+        ensures causes { IfErr result IsWriting }
+        ensures disk { IsErrOf result StoreErr.Disk → Rose (S.disk_faults site.old) (S.disk_faults site.new) }
+        ensures later { S.disk_faults site.old ≤ S.disk_faults site.new }
+        ensures tell_faults { S.tell_faults site.new ≡ S.tell_faults site.old }
+    {
+        if self.broken {
+            return Err(StoreErr::Broken);
+        }
+        let count = u64::from(batch.count());
+        if self.last > MAX_SEQUENCE || count > MAX_SEQUENCE - self.last {
+            return Err(StoreErr::Full(self.last));
+        }
+        records_are_batches();
+        names_one();
+        if let Err(error) = self.wal.append(alloc, site, self.last + 1, batch) {
+            self.broken = self.wal.failed();
+            return Err(error.into());
+        }
+        self.last += count;
+        if let Err(error) = put_operations(alloc, &mut self.map, batch) {
+            self.broken = true;
+            return Err(error);
+        }
+        Ok(())
+    }
+
+    /// Syncs the log in use: all batches written are on the disk.
+    ///
+    /// Errors: `Broken` exactly where a writing call has failed before, and then nothing has changed; `Disk` and `OutOfMemory`,
+    /// after which the store is broken.
+    pub fn sync<S: Site>(&mut self, site: &mut S) -> Result<(), StoreErr>
+        requires there { S.shows → IsSome (S.disk site.old (log_name self.old.log.number)) }
+        ensures same { OnOk result (self.new ≡ self.old) }
+        ensures synced { S.shows → OnOk result (Syncs (log_name self.old.log.number) (S.disk site.old) (S.disk site.new)) }
+        ensures reads { S.shows → OnOk result (folder_of (S.disk site.new) ≡ folder_of (S.disk site.old)) }
+        ensures carried { S.shows → OnOk result ((older own : Batches) (synced : ℕ) → Carries self.old older own synced (S.disk site.old)
+            → Carries self.new older own (length own) (S.disk site.new)) }
+        ensures held { S.shows → OnErr result ((older own : Batches) (synced : ℕ) → Carries self.old older own synced (S.disk site.old)
+            → StandsOn self.new.log older own synced self.old.last (S.disk site.new)) }
+        ensures broken { (result ≡ Err StoreErr.Broken) ↔ (self.old.broken ≡ true) }
+        ensures refused { IfErr result (λ e. IsRefusal e → (self.new ≡ self.old) × (site.new ≡ site.old)) }
+        ensures told { S.shows → S.told site.new ≡ S.told site.old }
+        ensures causes { IfErr result IsEnding }
+        ensures disk { IsErrOf result StoreErr.Disk → Rose (S.disk_faults site.old) (S.disk_faults site.new) }
+        ensures later { S.disk_faults site.old ≤ S.disk_faults site.new }
+        ensures tell_faults { S.tell_faults site.new ≡ S.tell_faults site.old }
+    {
+        if self.broken {
+            return Err(StoreErr::Broken);
+        }
+        names_one();
+        if let Err(error) = self.wal.sync(site) {
+            self.broken = true;
+            return Err(error.into());
+        }
+        Ok(())
+    }
+
+    /// The pairs whose keys are at `from` or behind it and before `to`, ascending.
+    pub fn pairs<'s>(
+        &'s self,
+        from: Option<&'s Octets>,
+        to: Option<&'s Octets>,
+    ) -> Range<'s, Octets, Octets>
+        ensures { result ≡ pairs_between (option_copied from.entry) (option_copied to.entry) self.now.now }
+    {
+        let _keys_ascend = self.map.len();
+        match (from, to) {
+            (Some(from), Some(to)) => between(&self.map, from, to),
+            (Some(from), None) => self.map.range(from..),
+            (None, Some(to)) => self.map.range(..to),
+            (None, None) => self.map.range(..),
+        }
+    }
+
+    /// The value of a key; None exactly where it has none.
+    pub fn get(&self, key: &Octets) -> Option<&Octets>
+        ensures { option_copied result ≡ get self.now.now key.now }
+    {
+        self.map.get(key)
+    }
+
+    /// Whether a writing call has failed. It becomes true exactly where one answered `Disk`, or `OutOfMemory` once the folder
+    /// was asked. Calls that read go on; the store is to be opened again.
+    pub fn is_broken(&self) -> bool
+        ensures { result ≡ self.now.broken }
+    {
+        self.broken
+    }
+}
