@@ -1,0 +1,10 @@
+mod Chaining
+mod Files
+mod Keeping
+mod Levels
+mod Placing
+mod Reaching
+mod Restoring
+mod Rows
+mod Searching
+mod Stepping

@@ -1,0 +1,5 @@
+pub mod Chains
+pub mod Laws
+pub mod Listing
+pub mod Snapshots
+pub mod Versions
