@@ -1,11 +1,13 @@
 -- A store on its disk, from call to call.
-use Rattle.std.proofs.Common.{◌≡◌, ◌≢◌, Bool, Err, IsErrOf, append_assoc, ℕ, ◌+◌, ◌-◌, ◌^◌, ◌<◌, ◌≤◌, List, [], ◌∷◌, ◌++◌, map, length, Option, None, Some, IsSome, refl, sym, ◌∙◌, ap, subst, arith, append-nil, ◌⊎◌, inl, inr}
+use Rattle.std.proofs.Common.{◌≡◌, ◌≢◌, Bool, Err, IsErrOf, append_assoc, ℕ, ◌+◌, ◌-◌, ◌^◌, ◌<◌, List, [], ◌∷◌, ◌++◌, map, length, Option, None, Some, IsSome, refl, sym, ◌∙◌, ap, subst, arith, append-nil, ◌⊎◌, inl, inr}
 use Rattle.std.proofs.lemmas.Bool.{cases_lt}
 use Rattle.std.proofs.lemmas.List.{map-append}
 use Rattle.std.specs.FinMap.{empty}
+use Rattle.std.specs.Prelude.{max}
 use Rattle.std.specs.Option.{option_map}
 use Rattle.bl_site.specs.Disk.{Name, File, Folder, Disk, folder_of}
 use Rattle.bl_site.specs.Calls.{Creates}
+use Rattle.bl_log.specs.Layout.{written}
 use Rattle.bl_names.specs.Names.{IsNumber, NamesOne}
 use Rattle.bl_entry.specs.Batches.{Batch}
 use Rattle.bl_entry.specs.Records.{batches_of}
@@ -23,6 +25,7 @@ use Rattle.bl_store.specs.Stored.{Stored, next_batch, IsSynced, StandsOn, Carrie
 use Rattle.bl_store.proofs.BatchLemmas.{after_more, after_one}
 use Rattle.bl_store.proofs.FolderLemmas.{not_there, makes}
 use Rattle.bl_store.proofs.LogLemmas.{up_to_same, up_to_empty}
+use Rattle.bl_store.proofs.OpenLemmas.{next_is}
 use Rattle.bl_store.proofs.NameLemmas.{one_number, log_is_no_other}
 
 other_name : NamesOne → (k n : ℕ) → IsNumber k → IsNumber n → (k ≡ n → ⊥) → log_name k ≢ log_name n
@@ -71,57 +74,81 @@ pub more_follow : NextBatchIsRead → (own : List Batch) (between last : ℕ) (b
     → batches_of (map record_of (own ++ b ∷ [])) between ≡ Some (own ++ b ∷ [], last + length b.operations)
 more_follow law own between last b follow read first = ap (λ r. batches_of r between) (map-append record_of own (b ∷ [])) ∙ law (map record_of own) between last own b follow read first
 
+-- a new log holds no batch
+pub created_holds : (number : ℕ) (old new : Disk) → Creates (log_name number) old new → HoldsBatches new (new_log number) [] 0
+unfolding written
+created_holds number old new made = record {
+  file = record { read = []; front = []; handed = [] };
+  there = made.at;
+  within = omega arith;
+  front = refl;
+  all = refl;
+  reads = λ whole. refl;
+  place = λ whole. refl;
+}
+
+-- the logs of a folder were synced and replayed
+pub record WasRead (folder : Folder) (disk : Disk) (now : Map) (last greatest : ℕ) : Type 0 where
+  pub only : HasOnlyLogs folder
+  pub same : folder_of disk ≡ folder
+  pub bound : greatest < 10 ^ 15
+  pub all : HasAll folder now last greatest
+  pub synced : (k : ℕ) → IsNumber k → IsSynced (disk (log_name k))
+
+-- the number of the next log
+pub is_next : (folder : Folder) (now : Map) (last greatest number : ℕ) → HasAll folder now last greatest → number ≡ max (greatest + 1) 2 → IsNext folder number
+is_next folder now last greatest number all is = record {
+  above = λ other io some. elim (cases_lt greatest other) [
+    | inl lt ↦ absurd (cc (some, all.above other lt io.1))
+    | inr le ↦ omega (arith, le, is)
+  ];
+  at_least = omega (arith, is);
+  least = elim (next_is greatest number is) [
+    | inl e ↦ inl e
+    | inr e ↦ elim all.there [
+      | inl zero ↦ inl (omega (arith, is, e, zero))
+      | inr there ↦
+          let same_number : greatest ≡ number - 1 = omega (arith, e) in
+          let T : ℕ → Type 0 = λ n. IsNumber n × IsSome (folder (log_name n)) in
+          inr (subst T same_number there)
+    ]
+  ];
+}
+
 -- A store is opened: the next log was made on a disk whose logs were synced and replayed.
-pub opens : NamesOne → (folder : Folder) (before after : Disk) (store : Stored) (greatest number : ℕ) → HasOnlyLogs folder → folder_of before ≡ folder → greatest < 10 ^ 15
-    → HasAll folder store.now store.last greatest → ((k : ℕ) → IsNumber k → IsSynced (before (log_name k)))
-    → greatest + 1 ≤ number → 2 ≤ number → (number ≡ 2) ⊎ (number ≡ greatest + 1) → number < 10 ^ 15
-    → Creates (log_name number) before after → HoldsBatches after (new_log number) [] 0 → store.log ≡ new_log number → Opens folder store after
-opens law folder before after store greatest number only same great all synced behind two is less made holds log =
-    let is_number : IsNumber number = (omega (arith, two), less) in
+pub opens : NamesOne → (folder : Folder) (before after : Disk) (store : Stored) (greatest number : ℕ) → WasRead folder before store.now store.last greatest
+    → number ≡ max (greatest + 1) 2 → number < 10 ^ 15 → Creates (log_name number) before after → store.log ≡ new_log number → Opens folder store after
+opens law folder before after store greatest number read is less made log =
+    let all = read.all in
+    let is_number : IsNumber number = (omega (arith, is), less) in
     let differ : (k : ℕ) → IsNumber k → (k ≡ number → ⊥) → after (log_name k) ≡ before (log_name k) = λ k ik ne. made.others (log_name k) (other_name law k number ik is_number ne) in
-    let at : (name : Name) → folder_of before name ≡ folder name = λ name. ap (λ f. f name) same in
+    let at : (name : Name) → folder_of before name ≡ folder name = λ name. ap (λ f. f name) read.same in
     let none : (k : ℕ) → greatest < k → k < 10 ^ 15 → before (log_name k) ≡ None = λ k lt k_less. not_there (before (log_name k)) (at (log_name k) ∙ all.above k lt k_less) in
     let P : LogFile → Type 0 = λ l. StandsOn l all.batches [] 0 store.last after in
     let M : Folder → Type 0 = λ f. Makes (log_name number) f (folder_of after) in
     let on : StandsOn (new_log number) all.batches [] 0 store.last after = record {
       only = only_logs law number (folder_of before) (folder_of after) is_number (λ other ne. same_reads before after other (made.others other ne))
-          (λ name some other. only name (let Q : Option (List ℕ) → Type 0 = IsSome in subst Q (at name) some) other);
+          (λ name some other. read.only name (let Q : Option (List ℕ) → Type 0 = IsSome in subst Q (at name) some) other);
       is_number = is_number;
-      newest = λ k lt k_less. differ k (omega (arith, lt), k_less) (λ e. omega (arith, lt, e)) ∙ none k (omega (arith, lt, behind)) k_less;
-      below_synced = λ k ik lt. subst IsSynced (sym (differ k ik (λ e. omega (arith, lt, e)))) (synced k ik);
+      newest = λ k lt k_less. differ k (omega (arith, lt), k_less) (λ e. omega (arith, lt, e)) ∙ none k (omega (arith, lt, is)) k_less;
+      below_synced = λ k ik lt. subst IsSynced (sym (differ k ik (λ e. omega (arith, lt, e)))) (read.synced k ik);
       between = store.last;
       below =
           ap (λ r. batches_of r 0) (up_to_same (number - 1) (folder_of after) folder
           (λ k some le. ap bytes_in (same_reads before after (log_name k) (differ k (some, omega (arith, le, less)) (λ e. omega (arith, le, e, some))) ∙ at (log_name k)))
-          ∙ up_to_empty greatest (number - 1) folder (omega (arith, behind)) (λ k lt le. ap bytes_in (all.above k lt (omega (arith, le, less))))) ∙ all.are;
-      holds = holds;
+          ∙ up_to_empty greatest (number - 1) folder (omega (arith, is)) (λ k lt le. ap bytes_in (all.above k lt (omega (arith, le, less))))) ∙ all.are;
+      holds = created_holds number before after made;
       follow = none_behind store.last;
     } in
     record {
       whole = ap (λ (l : LogFile). l.failed) log;
       batches = all.batches;
-      only = only;
-      had = record { top = greatest; is_number = great; no_more = λ k lt k_less. ap bytes_in (all.above k lt k_less); are = all.are };
+      only = read.only;
+      had = record { top = greatest; is_number = read.bound; no_more = λ k lt k_less. ap bytes_in (all.above k lt k_less); are = all.are };
       carries = record { on = subst P (sym log) on; now_is = all.now_is ∙ ap (λ bs. after_batches bs empty) (sym (append-nil all.batches)) };
-      next = let N : ℕ → Type 0 = λ n. IsNext folder n in subst N (sym (ap (λ (l : LogFile). l.number) log)) (record {
-        above = λ other io some. elim (cases_lt greatest other) [
-          | inl lt ↦ absurd (cc (some, all.above other lt io.1))
-          | inr le ↦ omega (arith, le, behind)
-        ];
-        at_least = two;
-        least = elim is [
-          | inl e ↦ inl e
-          | inr e ↦ elim all.there [
-            | inl zero ↦ inl (omega (arith, two, e, zero))
-            | inr there ↦
-                let same_number : greatest ≡ number - 1 = omega (arith, e) in
-                let T : ℕ → Type 0 = λ n. IsNumber n × IsSome (folder (log_name n)) in
-                inr (subst T same_number there)
-          ]
-        ];
-      });
+      next = let N : ℕ → Type 0 = λ n. IsNext folder n in subst N (sym (ap (λ (l : LogFile). l.number) log)) (is_next folder store.now store.last greatest number all is);
       made = let N : ℕ → Type 0 = λ n. Makes (log_name n) folder (folder_of after) in
-          subst N (sym (ap (λ (l : LogFile). l.number) log)) (subst M same (makes (log_name number) before after made));
+          subst N (sym (ap (λ (l : LogFile). l.number) log)) (subst M read.same (makes (log_name number) before after made));
     }
 
 -- after a write

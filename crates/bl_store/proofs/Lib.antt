@@ -7,6 +7,9 @@ mod NameLemmas
 mod FolderLemmas
 mod StandLemmas
 mod CarryLemmas
+mod CutLemmas
+mod MomentLemmas
+mod BarrierLemmas
 mod OpenLemmas
 mod OperationLemmas
 mod ReplayLemmas

@@ -17,3 +17,11 @@ if_err (Err e) P Q f p = f e p
 pub if_ok : {T E : Type 0} (r : Result T E) (P Q : T → Type 0) → ((x : T) → P x → Q x) → IfOk r P → IfOk r Q
 if_ok (Ok x) P Q f p = f x p
 if_ok (Err e) P Q f p = tt
+
+pub if_both : {T E : Type 0} (r : Result T E) (P Q R : T → Type 0) → ((x : T) → P x → Q x → R x) → IfOk r P → IfOk r Q → IfOk r R
+if_both (Ok x) P Q R f p q = f x p q
+if_both (Err e) P Q R f p q = tt
+
+pub ok_so : {T E : Type 0} (r : Result T E) (P : Type 0) → P → OnOk r P
+ok_so (Ok x) P p = p
+ok_so (Err e) P p = tt

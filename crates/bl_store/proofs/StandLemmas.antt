@@ -3,18 +3,19 @@ use Rattle.std.proofs.Common.{◌≡◌, ℕ, zero, suc, length, take, IsSome, a
 use Rattle.std.proofs.lemmas.Bool.{cases_lt}
 use Rattle.std.proofs.lemmas.List.{map-append}
 use Rattle.std.specs.Option.{option_map}
-use Rattle.bl_site.specs.Disk.{Name, File, Folder, folder_of, IsLeft}
+use Rattle.bl_site.specs.Disk.{Name, File, Folder, Disk, Cut, folder_of, IsLeft, IsCut}
 use Rattle.bl_names.specs.Names.{IsNumber}
 use Rattle.bl_wal.specs.Held.{record_of, log_of}
-use Rattle.bl_wal.specs.Laws.{LogsAreRead, CutLogsReadAsFronts, FrontsAreRead}
+use Rattle.bl_wal.specs.Laws.{LogsAreRead, CutLogsReadAsFronts, SyncedLogsAreLeft, FrontsAreRead}
 use Rattle.bl_log.specs.Log.{records, placed_records, walk, step_at}
 use Rattle.bl_entry.specs.Batches.{Batch}
 use Rattle.bl_entry.specs.Records.{batches_of, BatchesJoin}
-use Rattle.bl_wal.specs.LogFile.{log_name}
+use Rattle.bl_wal.specs.LogFile.{LogFile, log_name}
 use Rattle.bl_store.specs.Logs.{bytes_in, log_bytes, records_up_to}
 use Rattle.bl_store.specs.Folders.{HasOnlyLogs, Stands}
-use Rattle.bl_store.specs.Laws.{StoresStand, CutsStand}
-use Rattle.bl_store.specs.Stored.{IsSynced}
+use Rattle.bl_store.specs.Laws.{StoresStand, CutsStand, SyncedStoresAreLeft, OlderLogsAreSynced}
+use Rattle.bl_store.specs.Stored.{IsSynced, StandsOn}
+use Rattle.bl_store.specs.Cuts.{HasData}
 use Rattle.bl_store.specs.Damage.{BreaksAt, IsDamaged}
 use Rattle.bl_store.proofs.BatchLemmas.{join_none, join_some, none_then}
 use Rattle.bl_store.proofs.LogLemmas.{up_to_next, up_to_same, splits}
@@ -115,21 +116,47 @@ map_take f zero bs = refl
 map_take f (suc n) [] = refl
 map_take f (suc n) (b ∷ bs) = ap (λ r. f b ∷ r) (map_take f n bs)
 
+-- What a cut leaves, where these records are left of the log in use.
+left_stands : BatchesJoin → (log : LogFile) (older own : List Batch) (synced last : ℕ) (disk : Disk) (told : List ℕ) (c : Cut) (s : StandsOn log older own synced last disk) → IsCut disk told c
+    → (own_left : List Batch) (left : ℕ) (bytes : List ℕ) (payloads : List (List ℕ)) → c.folder (log_name log.number) ≡ Some bytes → records bytes ≡ payloads
+    → batches_of payloads s.between ≡ Some (own_left, left) → Stands c.folder (older ++ own_left) left
+left_stands join log older own synced last disk told c s is own_left left bytes payloads there are follow =
+    let at : (number : ℕ) → IsLeft (disk (log_name number)) (c.folder (log_name number)) = λ number. is.image (log_name number) in
+    stands_with join c.folder log.number s.between left older own_left bytes payloads
+    (λ name some other. s.only name (some_was (disk name) (c.folder name) (is.image name) some) other) s.is_number
+    (λ k lt less. none_left (disk (log_name k)) (c.folder (log_name k)) (at k) (s.newest k lt less))
+    (ap (λ x. batches_of x 0) (up_to_same (log.number - 1) c.folder (folder_of disk)
+    (λ k some le. ap bytes_in (synced_left (disk (log_name k)) (c.folder (log_name k)) (at k)
+    (s.below_synced k (some, omega (arith, le, s.is_number.1)) (omega (arith, le, some)))))) ∙ s.below)
+    there are follow
+
 pub cuts_stand : BatchesJoin → CutLogsReadAsFronts → FrontsAreRead → CutsStand
-cuts_stand join cut fronts log older own synced last disk told c s is chance =
-    let r = cut disk log own synced told c s.is_number s.holds is chance in
-    let f = fronts (map record_of own) s.between last r.count own s.follow in (
-      r.count,
-      r.at_least,
-      r.at_most,
-      (
-        f.0,
-        stands_with join c.folder log.number s.between f.0 older (take r.count own) r.bytes (take r.count (map record_of own))
-            (λ name some other. s.only name (some_was (disk name) (c.folder name) (is.image name) some) other) s.is_number
-            (λ k lt less. none_left (disk (log_name k)) (c.folder (log_name k)) (is.image (log_name k)) (s.newest k lt less))
-            (ap (λ x. batches_of x 0) (up_to_same (log.number - 1) c.folder (folder_of disk)
-            (λ k some le. ap bytes_in (synced_left (disk (log_name k)) (c.folder (log_name k)) (is.image (log_name k))
-            (s.below_synced k (some, omega (arith, le, s.is_number.1)) (omega (arith, le, some)))))) ∙ s.below)
-            r.there (r.reads ∙ sym (map_take record_of r.count own)) f.1,
-      ),
-    )
+cuts_stand join cut fronts log older own synced last disk told c s is = record {
+  told_is = is.told_is;
+  stands = λ chance.
+      let r = cut disk log own synced told c s.is_number s.holds is chance in
+      let f = fronts (map record_of own) s.between last r.count own s.follow in (
+        r.count,
+        r.at_least,
+        r.at_most,
+        (
+          f.0,
+          left_stands join log older own synced last disk told c s is (take r.count own) f.0 r.bytes (take r.count (map record_of own)) r.there (r.reads ∙ sym (map_take record_of r.count own)) f.1,
+        ),
+      );
+}
+
+pub synced_stores : BatchesJoin → LogsAreRead → SyncedLogsAreLeft → SyncedStoresAreLeft
+synced_stores join read leaves log older own last disk told c s is =
+    left_stands join log older own (length own) last disk told c s is own last (log_of own) (map record_of own) (leaves disk log own told c s.holds is) (read own) s.follow
+
+no_data : (o : Option File) → o ≡ None → HasData o → ⊥
+no_data None e has = has
+no_data (Some file) e has = cc e
+
+-- the logs below one that has data are below the log in use
+pub older_synced : OlderLogsAreSynced
+older_synced log older own synced last disk s lower upper is lt less has = elim (cases_lt log.number upper) [
+  | inl behind ↦ absurd (no_data (disk (log_name upper)) (s.newest upper behind less) has)
+  | inr le ↦ s.below_synced lower is (omega (arith, lt, le))
+]

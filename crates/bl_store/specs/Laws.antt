@@ -1,14 +1,14 @@
 -- What holds of the definitions.
-use Rattle.std.specs.Prelude.{◌≡◌, ℕ, ◌≤◌, false, List, ◌++◌, length, take}
+use Rattle.std.specs.Prelude.{◌≡◌, ℕ, false, List, ◌++◌, length}
 use Rattle.std.specs.FinMap.{empty}
 use Rattle.bl_site.specs.Disk.{Name, Folder, Disk, Cut, IsCut, folder_of}
 use Rattle.bl_entry.specs.Batches.{Batch}
 use Rattle.bl_entry.specs.Revisions.{revisions_of, IsMapAt}
 use Rattle.bl_wal.specs.LogFile.{LogFile}
-use Rattle.bl_wal.specs.Chance.{NoChanceMatch}
 use Rattle.bl_store.specs.Logs.{after_batches, HaveBatches}
 use Rattle.bl_store.specs.Folders.{Stands}
 use Rattle.bl_store.specs.Stored.{StandsOn}
+use Rattle.bl_store.specs.Cuts.{LeavesFirst, AreWhole}
 use Rattle.bl_store.specs.Damage.{IsDamaged}
 
 -- A folder with a fault does not stand.
@@ -29,8 +29,16 @@ abbrev pub StoresStand : Type 0
 StoresStand = (log : LogFile) (older own : List Batch) (synced last : ℕ) (disk : Disk) → log.failed ≡ false → StandsOn log older own synced last disk
     → Stands (folder_of disk) (older ++ own) last
 
--- Unless a torn fragment's checksum matches by chance, a power cut leaves a folder of the older batches and of the first of its own, at least the synced ones.
+-- A power cut leaves the older batches and the first of its own, at least the synced ones.
 abbrev pub CutsStand : Type 0
 CutsStand = (log : LogFile) (older own : List Batch) (synced last : ℕ) (disk : Disk) (told : List ℕ) (c : Cut) → StandsOn log older own synced last disk
-    → IsCut disk told c → NoChanceMatch c.folder c.written
-    → (count : ℕ) × (synced ≤ count) × (count ≤ length own) × ((left : ℕ) × Stands c.folder (older ++ take count own) left)
+    → IsCut disk told c → LeavesFirst older own synced told c
+
+-- Where all of its own are synced, it leaves them all, whatever checksum may match by chance.
+abbrev pub SyncedStoresAreLeft : Type 0
+SyncedStoresAreLeft = (log : LogFile) (older own : List Batch) (last : ℕ) (disk : Disk) (told : List ℕ) (c : Cut) → StandsOn log older own (length own) last disk
+    → IsCut disk told c → Stands c.folder (older ++ own) last
+
+-- Wherever a log has data, the logs below it are synced.
+abbrev pub OlderLogsAreSynced : Type 0
+OlderLogsAreSynced = (log : LogFile) (older own : List Batch) (synced last : ℕ) (disk : Disk) → StandsOn log older own synced last disk → AreWhole disk

@@ -4,6 +4,7 @@ pub mod Damage
 pub mod Pairs
 pub mod Stored
 pub mod Causes
+pub mod Cuts
 pub mod Laws
 pub mod Listing
 pub mod Replaying

@@ -1,10 +1,10 @@
 //! What holds of the definitions: a caller that needs one of these calls it.
 
-ghost use Rattle.bl_store.specs.Laws.{BatchesAreOnce, BatchesMakeMap, CutsStand, DamagedDoNotStand, StoresStand};
+ghost use Rattle.bl_store.specs.Laws.{BatchesAreOnce, BatchesMakeMap, CutsStand, DamagedDoNotStand, OlderLogsAreSynced, StoresStand, SyncedStoresAreLeft};
 
 use bl_entry::{batches_join, operations_change_the_map};
 use bl_log::placed_records_are_records;
-use bl_wal::{cut_logs_read_as_fronts, logs_are_read, records_are_batches};
+use bl_wal::{cut_logs_read_as_fronts, logs_are_read, records_are_batches, synced_logs_are_left};
 
 /// A folder with a fault does not stand.
 pub fn damaged_do_not_stand()
@@ -43,3 +43,17 @@ pub fn cuts_stand()
     cut_logs_read_as_fronts();
     records_are_batches();
 }
+
+/// A power cut leaves all batches of a store whose log in use is synced, whatever checksum may match by chance.
+pub fn synced_stores_are_left()
+    ensures { SyncedStoresAreLeft }
+{
+    batches_join();
+    logs_are_read();
+    synced_logs_are_left();
+}
+
+/// Where a store stands on a disk and one of its logs has data, no log of a lower number has an unsynced byte.
+pub fn older_logs_are_synced()
+    ensures { OlderLogsAreSynced }
+{}

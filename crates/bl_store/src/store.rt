@@ -5,20 +5,21 @@ ghost use Rattle.std.specs.Option.{option_copied, option_map};
 ghost use Rattle.std.specs.FinMap.{get};
 ghost use Rattle.bl_site.specs.Disk.{Name, folder_of};
 ghost use Rattle.bl_code.specs.Order.{bytes_le, bytes_lt};
-ghost use Rattle.bl_site.specs.Calls.{Appends, AppendsAny, Syncs};
-ghost use Rattle.bl_site.specs.Causes.{Rose};
-ghost use Rattle.bl_wal.specs.LogFile.{log_name};
+ghost use Rattle.bl_site.specs.Calls.{Appends, AppendsAny, Frays, KeepsDisk, LeavesOnly, Syncs};
+ghost use Rattle.bl_site.specs.Causes.{Rose, one_more};
+ghost use Rattle.bl_wal.specs.LogFile.{LogFile, log_name};
 ghost use Rattle.bl_wal.specs.Held.{Batches};
 ghost use Rattle.bl_store.specs.Damage.{IsDamaged};
 ghost use Rattle.bl_store.specs.Folders.{Stands};
 ghost use Rattle.bl_store.specs.Pairs.{pairs_between};
 ghost use Rattle.bl_store.specs.Stored.{StandsOn, next_batch, next_record, wrote, Carries, Opens, MayAppend, MayHold};
+ghost use Rattle.bl_store.specs.Cuts.{BeforeBarrier, LeavesFirst};
 ghost use Rattle.bl_store.specs.Causes.{IsOpening, IsWriting, IsEnding, IsRefusal};
 
 use crate::error::StoreErr;
+use crate::laws::{batches_are_once, cuts_stand, stores_stand};
 use crate::memory::put_operations;
-use crate::names::{log_numbers, refuse_others};
-use crate::open::{replay_logs, sync_logs};
+use crate::open::{next_number, read_logs};
 use bl_code::Octets;
 use bl_entry::Batch;
 use bl_names::names_one;
@@ -31,9 +32,6 @@ use std::marker::Model;
 
 // The greatest sequence.
 const MAX_SEQUENCE: u64 = (1 << 56) - 1;
-
-// Files have numbers below this one.
-const FILE_LIMIT: u64 = 1_000_000_000_000_000;
 
 /// An ordered map from keys to values, kept in memory, whose writes stand in a log. A contract sees the log in use, the last
 /// sequence, the map, and whether a writing call has failed.
@@ -89,22 +87,27 @@ impl Store {
         ensures full { S.shows → (number : ℕ) → result ≡ Err (StoreErr.Full number) → (number ≡ 10 ^ 15) × IsSome (folder_of (S.disk site.old) (log_name (10 ^ 15 - 1)))
             × ((batches : Batches) × ((last : ℕ) × Stands (folder_of (S.disk site.old)) batches last)) }
         ensures same { S.shows → IfErr result (λ e. IsRefusal e → folder_of (S.disk site.new) ≡ folder_of (S.disk site.old)) }
+        ensures stays_certain { S.shows → IfErr result (λ e. IsRefusal e → S.certain site.old → S.certain site.new) }
+
+        // Until it has answered, a cut leaves what a cut before it might have left, perhaps with the next log besides, which is empty.
+        ensures before { S.shows → LeavesOnly S.clock S.left_since site.old site.new (BeforeBarrier (folder_of (S.disk site.old)) (S.may_be site.old) (S.told site.old)) }
+
+        // Of a store that stands on the disk, it leaves no synced batch out.
+        ensures cuts { S.shows → S.certain site.old → (log : LogFile) (older own : Batches) (synced last : ℕ) → log.failed ≡ false → StandsOn log older own synced last (S.disk site.old)
+            → LeavesOnly S.clock S.left_since site.old site.new (LeavesFirst older own synced (S.told site.old)) }
+
         ensures told { S.shows → S.told site.new ≡ S.told site.old }
         ensures causes { IfErr result IsOpening }
         ensures disk { IsErrOf result StoreErr.Disk → Rose (S.disk_faults site.old) (S.disk_faults site.new) }
         ensures later { S.disk_faults site.old ≤ S.disk_faults site.new }
         ensures tell_faults { S.tell_faults site.new ≡ S.tell_faults site.old }
     {
-        let names = site.list(alloc)?;
-        refuse_others(alloc, names.as_slice())?;
-        let numbers = log_numbers(alloc, names.as_slice())?;
-        sync_logs(alloc, site, &numbers)?;
-        let memory = replay_logs(alloc, site, &numbers)?;
-        let number = (memory.greatest + 1).max(2);
-        if number == FILE_LIMIT {
-            return Err(StoreErr::Full(number));
-        }
         names_one();
+        batches_are_once();
+        stores_stand();
+        cuts_stand();
+        let memory = read_logs(alloc, site)?;
+        let number = next_number(memory.greatest)?;
         let wal = Wal::create(alloc, site, number)?;
         Ok(Store {
             wal,
@@ -137,13 +140,28 @@ impl Store {
         ensures fits { OnOk result (self.old.last + length batch.now < 2 ^ 56) }
         ensures refused { IfErr result (λ e. IsRefusal e → (self.new ≡ self.old) × (site.new ≡ site.old)) }
         ensures stays { OnErr result (self.new.broken ≡ false → self.new ≡ self.old) }
+
+        // It is broken exactly after `Disk`, and after `OutOfMemory` once the folder was asked; else nothing has changed.
+        ensures breaks { IsErrOf result StoreErr.Disk → self.new.broken ≡ true }
+        ensures breaks_asked { IsErrOf result StoreErr.OutOfMemory → self.new.broken ≡ true → S.changes site.new ≡ one_more (S.changes site.old) }
+        ensures unchanged { S.shows → OnErr result (self.new.broken ≡ false → KeepsDisk S.disk S.may_be S.certain site.old site.new) }
+        ensures uncounted { OnErr result (self.new.broken ≡ false → S.changes site.new ≡ S.changes site.old) }
+
+        ensures full_first { self.old.broken ≡ false → 2 ^ 56 ≤ self.old.last + length batch.now → result ≡ Err (StoreErr.Full self.old.last) }
         ensures torn { S.shows → OnErr result (MayAppend (log_name self.old.log.number) (next_record self.old batch.now) (S.disk site.old) (S.disk site.new)) }
+        ensures certain { S.shows → S.certain site.old → S.certain site.new }
+
+        // A cut during it leaves no synced batch out, and has at most this one besides those written.
+        ensures cuts { S.shows → S.certain site.old → (older own : Batches) (synced : ℕ) → Carries self.old older own synced (S.disk site.old)
+            → LeavesOnly S.clock S.left_since site.old site.new (LeavesFirst older (own ++ next_batch self.old batch.now ∷ []) synced (S.told site.old)) }
+
         ensures told { S.shows → S.told site.new ≡ S.told site.old }
         ensures causes { IfErr result IsWriting }
         ensures disk { IsErrOf result StoreErr.Disk → Rose (S.disk_faults site.old) (S.disk_faults site.new) }
         ensures later { S.disk_faults site.old ≤ S.disk_faults site.new }
         ensures tell_faults { S.tell_faults site.new ≡ S.tell_faults site.old }
     {
+        cuts_stand();
         if self.broken {
             return Err(StoreErr::Broken);
         }
@@ -178,6 +196,18 @@ impl Store {
             → Carries self.new older own (length own) (S.disk site.new)) }
         ensures held { S.shows → OnErr result ((older own : Batches) (synced : ℕ) → Carries self.old older own synced (S.disk site.old)
             → StandsOn self.new.log older own synced self.old.last (S.disk site.new)) }
+        ensures certain { S.shows → S.certain site.old → S.certain site.new }
+
+        // A cut during it leaves no synced batch out.
+        ensures cuts { S.shows → S.certain site.old → (older own : Batches) (synced : ℕ) → Carries self.old older own synced (S.disk site.old)
+            → LeavesOnly S.clock S.left_since site.old site.new (LeavesFirst older own synced (S.told site.old)) }
+
+        // After a failure it is broken, and reads as before.
+        ensures breaks { OnErr result (self.new.broken ≡ true) }
+        ensures reading { (self.new.now ≡ self.old.now) × (self.new.last ≡ self.old.last) × (self.new.log.number ≡ self.old.log.number) }
+        ensures frayed { S.shows → IsErrOf result StoreErr.Disk → Frays (log_name self.old.log.number) (S.disk site.old) (S.disk site.new) }
+        ensures kept { S.shows → IsErrOf result StoreErr.OutOfMemory → KeepsDisk S.disk S.may_be S.certain site.old site.new }
+
         ensures broken { (result ≡ Err StoreErr.Broken) ↔ (self.old.broken ≡ true) }
         ensures refused { IfErr result (λ e. IsRefusal e → (self.new ≡ self.old) × (site.new ≡ site.old)) }
         ensures told { S.shows → S.told site.new ≡ S.told site.old }
@@ -186,6 +216,7 @@ impl Store {
         ensures later { S.disk_faults site.old ≤ S.disk_faults site.new }
         ensures tell_faults { S.tell_faults site.new ≡ S.tell_faults site.old }
     {
+        cuts_stand();
         if self.broken {
             return Err(StoreErr::Broken);
         }

@@ -1,6 +1,6 @@
 use Rattle.std.proofs.Common.{◌≡◌, ◌+◌, ◌-◌, ◌<◌, ◌∷◌, get_or, drop, length, ap, sym, ◌∙◌, subst, arith, inl, inr, Err, refl}
 use Rattle.std.proofs.lemmas.Result.{err_from_is_err_and}
-use Rattle.bl_site.specs.Disk.{Folder, folder_of}
+use Rattle.bl_site.specs.Disk.{Folder, MayLeave, folder_of}
 use Rattle.bl_store.specs.declared.error.StoreErr.TheVariants.{Corrupt}
 use Rattle.bl_store.specs.Stored.{map_in}
 use Rattle.bl_store.specs.Listing.{AreLogsAbove}
@@ -8,6 +8,7 @@ use Rattle.bl_store.specs.Replaying.{HasReplayed}
 use Rattle.bl_store.proofs.FolderLemmas.{keeps_same, keeps_then}
 use Rattle.bl_store.proofs.NumberLemmas.{passes}
 use Rattle.bl_store.proofs.ReplayLemmas.{none_replayed, up_to, all_replayed, replayed_at, left_now, none_left}
+use Rattle.bl_store.proofs.CutLemmas.{no_call, then_left}
 use Rattle.bl_store.proofs.open.replay_logs.Goals as goal
 
 pub loop-number-init : goal.loop-number-init
@@ -17,6 +18,7 @@ loop-number-init g c = record {
   left = λ shown. c.requires.logs shown;
   replayed = λ shown. none_replayed (folder_of (g.S.Site.disk c.args.site.now)) (map_in c.new.result.entries) (ap map_in c.new.ensures.empty);
   stays = λ shown. keeps_same c.args.site.now;
+  cuts = λ shown. no_call g.S.Site.clock g.S.Site.left_since g.S.Site.told g.S.Site.may_be c.args.site.now (g.met.S.Site.only_now shown c.args.site.now);
   told = λ shown. refl;
   later = omega arith;
   tell_faults = refl;
@@ -53,6 +55,10 @@ loop-number-preserved g c =
           rw great (subst P same (c.in_ok-replay_log.ensures.replayed shown (let Q : Folder → Type 0 = λ f. HasReplayed f (number - 1) (map_in c.loop-number.memory.map.entries) c.loop-number.memory.last in
           subst Q (sym same) (up_to folder c.loop-number.memory.greatest number _ (map_in c.loop-number.memory.map.entries) c.loop-number.memory.last (left shown) (i.replayed shown)))));
       stays = λ shown. keeps_then c.args.site.now c.loop-number.site c.replay_log.new.site (i.stays shown) (c.replay_log.ensures.stays shown);
+      cuts = λ shown.
+          let site = g.S.Site in
+          then_left site.clock site.left_since site.told site.may_be c.args.site.now c.loop-number.site c.replay_log.new.site (MayLeave (site.may_be c.args.site.now) (site.told c.args.site.now))
+          (g.met.S.Site.counts_now shown c.loop-number.site) (i.cuts shown) (c.replay_log.ensures.cuts shown);
       told = λ shown. c.replay_log.ensures.told shown ∙ i.told shown;
       later = omega (arith, c.replay_log.ensures.later, i.later);
       tell_faults = c.replay_log.ensures.tell_faults ∙ i.tell_faults;

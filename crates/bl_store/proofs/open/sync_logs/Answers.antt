@@ -1,8 +1,9 @@
-use Rattle.std.proofs.Common.{◌≡◌, get_or, ap, sym, ◌∙◌, subst, arith, inl, inr, IsSome}
+use Rattle.std.proofs.Common.{◌≡◌, get_or, ap, sym, ◌∙◌, subst, arith, refl, inl, inr, IsSome}
 use Rattle.std.proofs.lemmas.Bool.{cases_lt}
-use Rattle.bl_site.specs.Disk.{Folder}
+use Rattle.bl_site.specs.Disk.{Folder, MayLeave}
 use Rattle.bl_wal.specs.LogFile.{log_name}
 use Rattle.bl_store.proofs.FolderLemmas.{sync_keeps, sync_syncs, reads_there, at_place, all_synced}
+use Rattle.bl_store.proofs.CutLemmas.{no_call, all_found, then_left, then_found, sync_reads}
 use Rattle.bl_store.proofs.open.sync_logs.Goals as goal
 
 pub sync_log-requires-clause-there : goal.sync_log-requires-clause-there
@@ -24,6 +25,18 @@ loop-number-preserved g c =
             | inl less ↦ inr (i.synced shown k less)
             | inr le ↦ inl (let same : k ≡ c.loop-number.number-index = omega (arith, lt, le) in ap (λ n. log_name (get_or c.args.numbers.now n 0)) same)
           ]);
+      certain = λ shown sure. c.sync_log.ensures.certain shown (i.certain shown sure);
+      before = λ shown.
+          let site = g.S.Site in
+          then_found site.clock site.left_since site.told site.may_be c.args.site.now c.loop-number.site c.sync_log.new.site (g.met.S.Site.counts_now shown c.loop-number.site) (i.told shown)
+          (i.before shown) (c.sync_log.ensures.before shown);
+      cuts = λ shown reads.
+          let site = g.S.Site in
+          let here = i.cuts shown reads in (
+            sync_reads (log_name number) (site.disk c.loop-number.site) (site.disk c.sync_log.new.site) (c.in_ok-sync_log.ensures.done shown) here.0,
+            then_left site.clock site.left_since site.told site.may_be c.args.site.now c.loop-number.site c.sync_log.new.site (MayLeave (site.may_be c.args.site.now) (site.told c.args.site.now))
+                (g.met.S.Site.counts_now shown c.loop-number.site) here.1 (c.sync_log.ensures.cuts shown here.0),
+          );
       told = λ shown. c.sync_log.ensures.told shown ∙ i.told shown;
       later = omega (arith, c.sync_log.ensures.later, i.later);
       tell_faults = c.sync_log.ensures.tell_faults ∙ i.tell_faults;
@@ -34,3 +47,32 @@ returns-clause-synced g c = λ shown.
     let i = c.loop-number.invariant in
     all_synced c.args.numbers.now (g.S.Site.disk c.args.site.now) (g.S.Site.disk c.loop-number.site) (c.requires.logs shown) (i.same shown)
     (λ k lt. i.synced shown k (omega (arith, lt, c.loop-number-test.false)))
+
+pub returns-in_err-sync_log-clause-before : goal.returns-in_err-sync_log-clause-before
+returns-in_err-sync_log-clause-before g c = λ shown.
+    let site = g.S.Site in
+    let i = c.loop-number.invariant in
+    then_found site.clock site.left_since site.told site.may_be c.args.site.now c.loop-number.site c.sync_log.new.site (g.met.S.Site.counts_now shown c.loop-number.site) (i.told shown)
+    (i.before shown) (c.sync_log.ensures.before shown)
+
+pub returns-in_err-sync_log-clause-cuts : goal.returns-in_err-sync_log-clause-cuts
+returns-in_err-sync_log-clause-cuts g c = λ shown reads.
+    let site = g.S.Site in
+    let here = c.loop-number.invariant.cuts shown reads in
+    then_left site.clock site.left_since site.told site.may_be c.args.site.now c.loop-number.site c.sync_log.new.site (MayLeave (site.may_be c.args.site.now) (site.told c.args.site.now))
+    (g.met.S.Site.counts_now shown c.loop-number.site) here.1 (c.sync_log.ensures.cuts shown here.0)
+
+pub loop-number-init : goal.loop-number-init
+loop-number-init g c =
+    let site = g.S.Site in
+    let old = c.args.site.now in
+    record {
+      same = λ shown. refl;
+      synced = λ shown k lt. absurd (omega (arith, lt));
+      certain = λ shown sure. sure;
+      before = λ shown. all_found site.clock site.left_since site.told site.may_be old old (no_call site.clock site.left_since site.told site.may_be old (g.met.S.Site.only_now shown old));
+      cuts = λ shown reads. (reads, no_call site.clock site.left_since site.told site.may_be old (g.met.S.Site.only_now shown old));
+      told = λ shown. refl;
+      later = omega arith;
+      tell_faults = refl;
+    }

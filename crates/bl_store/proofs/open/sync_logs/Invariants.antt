@@ -1,7 +1,9 @@
 use Rattle.std.proofs.Common.{◌≡◌, ◌≤◌, ◌<◌, ℕ, get_or}
-use Rattle.bl_site.specs.Disk.{folder_of}
+use Rattle.bl_site.specs.Disk.{MayLeave, folder_of}
+use Rattle.bl_site.specs.Calls.{LeavesOnly}
 use Rattle.bl_wal.specs.LogFile.{log_name}
 use Rattle.bl_store.specs.Stored.{IsSynced}
+use Rattle.bl_store.specs.Cuts.{LeavesFound, AreReadAsWritten}
 use Rattle.bl_store.proofs.open.sync_logs.Given as goal
 
 abbrev pub invariant-loop-number : goal.invariant-loop-number
@@ -10,6 +12,10 @@ invariant-loop-number g l =
     record {
       same : site.shows → folder_of (site.disk l.site) ≡ folder_of (site.disk l.fn.site);
       synced : site.shows → (k : ℕ) → k < l.number-index → IsSynced (site.disk l.site (log_name (get_or l.numbers k 0)));
+      certain : site.shows → site.certain l.fn.site → site.certain l.site;
+      before : site.shows → LeavesOnly site.clock site.left_since l.fn.site l.site (LeavesFound (site.may_be l.fn.site) (site.told l.fn.site));
+      cuts : site.shows → AreReadAsWritten (site.disk l.fn.site)
+          → AreReadAsWritten (site.disk l.site) × LeavesOnly site.clock site.left_since l.fn.site l.site (MayLeave (site.may_be l.fn.site) (site.told l.fn.site));
       told : site.shows → site.told l.site ≡ site.told l.fn.site;
       later : site.disk_faults l.fn.site ≤ site.disk_faults l.site;
       tell_faults : site.tell_faults l.site ≡ site.tell_faults l.fn.site;

@@ -1,81 +1,118 @@
-use Rattle.std.proofs.Common.{◌≡◌, ◌^◌, false, map, string_bytes, length, sym, ◌∙◌, ap, subst, arith, Err, inl, inr}
+use Rattle.std.proofs.Common.{◌≡◌, ◌^◌, false, sym, ap, refl, arith, Err}
 use Rattle.std.proofs.lemmas.Result.{err_from_is_err_and}
-use Rattle.bl_site.specs.Disk.{Disk, Folder, folder_of}
-use Rattle.bl_store.specs.declared.error.StoreErr.TheVariants.{Corrupt}
-use Rattle.bl_store.specs.Damage.{BreaksAt}
-use Rattle.bl_store.specs.Replaying.{HasAll}
-use Rattle.bl_store.specs.Stored.{Stored, IsSynced, map_in}
-use Rattle.bl_wal.specs.LogFile.{log_name}
-use Rattle.bl_store.proofs.NameLemmas.{first_there, none_other}
-use Rattle.bl_store.proofs.OpenLemmas.{listed, numbers_found, logs_found, none_left, next_is}
-use Rattle.bl_store.proofs.CarryLemmas.{opens}
+use Rattle.bl_site.specs.Disk.{folder_of}
+use Rattle.bl_names.specs.Names.{IsNumber}
+use Rattle.bl_store.specs.declared.error.StoreErr.TheVariants.{Corrupt, Full}
+use Rattle.bl_store.specs.Stored.{Stored, map_in}
+use Rattle.bl_store.proofs.OpenLemmas.{none_left, next_is}
+use Rattle.bl_store.proofs.CarryLemmas.{WasRead, is_next, opens}
+use Rattle.bl_store.proofs.BarrierLemmas.{read_before, made_before, read_stands, made_stands, stands_reads}
 use Rattle.bl_store.proofs.store.Store.open_site.Goals as goal
-
-pub returns-in_err-refuse_others-clause-corrupt : goal.returns-in_err-refuse_others-clause-corrupt
-returns-in_err-refuse_others-clause-corrupt g c = λ shown name place is.
-    let p = err_from_is_err_and c.from_residual-in_err-refuse_others.result c.from_residual-in_err-refuse_others.ensures.1 in
-    let e : c.in_err-refuse_others.field-0.0 ≡ Corrupt name place = cc (is, p.1, p.2) in
-    let disk = g.S.Site.disk c.args.site.now in
-    let there = listed string_bytes disk c.in_ok-names.names.items c.as_slice.result.now c.as_slice.ensures.value (c.in_ok-names.ensures.value shown) in
-    let l = c.in_err-refuse_others.ensures.corrupt name place (ap Err e) in
-    inl (first_there (folder_of disk) (length c.as_slice.result.now) (map string_bytes c.as_slice.result.now) name there l.0, l.1)
-
-pub sync_logs-requires-clause-numbers : goal.sync_logs-requires-clause-numbers
-sync_logs-requires-clause-numbers g c =
-    numbers_found (map string_bytes c.as_slice-2.result.now) (length c.as_slice-2.result.now) c.in_ok-numbers.numbers.items c.deref.result.now c.deref.ensures.value c.in_ok-numbers.ensures.numbers
-
-pub sync_logs-requires-clause-logs : goal.sync_logs-requires-clause-logs
-sync_logs-requires-clause-logs g c = λ shown.
-    let disk = g.S.Site.disk c.args.site.now in
-    let there = listed string_bytes disk c.in_ok-names.names.items c.as_slice-2.result.now c.as_slice-2.ensures.value (c.in_ok-names.ensures.value shown) in
-    logs_found (map string_bytes c.as_slice-2.result.now) (length c.as_slice-2.result.now) c.in_ok-numbers.numbers.items c.deref.result.now (folder_of disk) _ c.deref.ensures.value
-    (ap folder_of (c.list.ensures.stays shown).same) c.in_ok-numbers.ensures.sorted c.in_ok-numbers.ensures.numbers there
-
-pub replay_logs-requires-clause-numbers : goal.replay_logs-requires-clause-numbers
-replay_logs-requires-clause-numbers g c =
-    numbers_found (map string_bytes c.as_slice-2.result.now) (length c.as_slice-2.result.now) c.in_ok-numbers.numbers.items c.deref-2.result.now c.deref-2.ensures.value c.in_ok-numbers.ensures.numbers
-
-pub replay_logs-requires-clause-logs : goal.replay_logs-requires-clause-logs
-replay_logs-requires-clause-logs g c = λ shown.
-    let disk = g.S.Site.disk c.args.site.now in
-    let there = listed string_bytes disk c.in_ok-names.names.items c.as_slice-2.result.now c.as_slice-2.ensures.value (c.in_ok-names.ensures.value shown) in
-    logs_found (map string_bytes c.as_slice-2.result.now) (length c.as_slice-2.result.now) c.in_ok-numbers.numbers.items c.deref-2.result.now (folder_of disk) _ c.deref-2.ensures.value
-    (c.in_ok-sync_logs.ensures.same shown ∙ ap folder_of (c.list.ensures.stays shown).same) c.in_ok-numbers.ensures.sorted c.in_ok-numbers.ensures.numbers there
-
-pub returns-in_err-memory-clause-corrupt : goal.returns-in_err-memory-clause-corrupt
-returns-in_err-memory-clause-corrupt g c = λ shown name place is.
-    let p = err_from_is_err_and c.from_residual-in_err-memory.result c.from_residual-in_err-memory.ensures.1 in
-    let e : c.in_err-memory.field-0.0 ≡ Corrupt name place = cc (is, p.1, p.2) in
-    let disk = g.S.Site.disk c.args.site.now in
-    let there = listed string_bytes disk c.in_ok-names.names.items c.as_slice.result.now c.as_slice.ensures.value (c.in_ok-names.ensures.value shown) in
-    let same : folder_of (g.S.Site.disk c.sync_logs.new.site) ≡ folder_of disk = c.in_ok-sync_logs.ensures.same shown ∙ ap folder_of (c.list.ensures.stays shown).same in
-    let b = c.in_err-memory.ensures.corrupt shown name place (ap Err e) in
-    let P : Folder → Type 0 = λ f. BreaksAt f b.0 place in
-    inr (none_other (folder_of disk) (length c.as_slice.result.now) (map string_bytes c.as_slice.result.now) there c.in_ok-refuse_others.ensures.none, (b.0, b.1, subst P same b.2))
-
-pub returns-then-number-eq-FILE_LIMIT-clause-full : goal.returns-then-number-eq-FILE_LIMIT-clause-full
-returns-then-number-eq-FILE_LIMIT-clause-full g c = λ shown number is.
-    let disk = g.S.Site.disk c.args.site.now in
-    let there = listed string_bytes disk c.in_ok-names.names.items c.as_slice.result.now c.as_slice.ensures.value (c.in_ok-names.ensures.value shown) in
-    let same : folder_of (g.S.Site.disk c.sync_logs.new.site) ≡ folder_of disk = c.in_ok-sync_logs.ensures.same shown ∙ ap folder_of (c.list.ensures.stays shown).same in
-    let only = none_other (folder_of disk) (length c.as_slice.result.now) (map string_bytes c.as_slice.result.now) there c.in_ok-refuse_others.ensures.none in
-    let P : Folder → Type 0 = λ f. HasAll f (map_in c.in_ok-memory.memory.map.entries) c.in_ok-memory.memory.last c.in_ok-memory.memory.greatest in
-    let all = subst P same (c.in_ok-memory.ensures.replayed shown) in
-    let limit : c.max-number.result ≡ 10 ^ 15 = c.if-number-eq-FILE_LIMIT.true in
-    let one : c.max-number.result ≡ number = cc is in
-    let n = none_left (folder_of disk) _ _ c.in_ok-memory.memory.greatest c.max-number.result only all c.in_ok-memory.ensures.bound limit (next_is c.in_ok-memory.memory.greatest c.max-number.result c.max-number.ensures) in
-    (sym one ∙ limit, n.0, n.1)
 
 pub returns-clause-opened : goal.returns-clause-opened
 returns-clause-opened g c = λ shown.
-    let disk = g.S.Site.disk c.args.site.now in
-    let there = listed string_bytes disk c.in_ok-names.names.items c.as_slice.result.now c.as_slice.ensures.value (c.in_ok-names.ensures.value shown) in
-    let synced : folder_of (g.S.Site.disk c.sync_logs.new.site) ≡ folder_of disk = c.in_ok-sync_logs.ensures.same shown ∙ ap folder_of (c.list.ensures.stays shown).same in
-    let only = none_other (folder_of disk) (length c.as_slice.result.now) (map string_bytes c.as_slice.result.now) there c.in_ok-refuse_others.ensures.none in
-    let P : Folder → Type 0 = λ f. HasAll f (map_in c.in_ok-memory.memory.map.entries) c.in_ok-memory.memory.last c.in_ok-memory.memory.greatest in
-    let store : Stored = record { log = c.in_ok-wal.wal; last = c.in_ok-memory.memory.last; now = map_in c.in_ok-memory.memory.map.entries; broken = false } in
-    opens c.names_one.ensures (folder_of disk) (g.S.Site.disk c.replay_logs.new.site) (g.S.Site.disk c.create.new.site) store c.in_ok-memory.memory.greatest c.max-number.result only
-    (ap folder_of (c.replay_logs.ensures.stays shown).same ∙ synced) c.in_ok-memory.ensures.bound (subst P synced (c.in_ok-memory.ensures.replayed shown))
-    (λ k is. subst IsSynced (sym (ap (λ (d : Disk). d (log_name k)) (c.replay_logs.ensures.stays shown).same)) (c.in_ok-sync_logs.ensures.synced shown k is))
-    (omega (arith, c.max-number.ensures)) (omega (arith, c.max-number.ensures)) (next_is c.in_ok-memory.memory.greatest c.max-number.result c.max-number.ensures)
-    (omega (arith, c.max-number.ensures, c.in_ok-memory.ensures.bound, c.if-number-eq-FILE_LIMIT.false)) (c.in_ok-wal.ensures.created shown) (c.in_ok-wal.ensures.holds shown) c.in_ok-wal.ensures.made
+    let site = g.S.Site in
+    let m = c.in_ok-memory.memory in
+    let found = c.in_ok-memory.ensures in
+    let read : WasRead (folder_of (site.disk c.args.site.now)) (site.disk c.read_logs.new.site) (map_in m.map.entries) m.last m.greatest =
+    record { only = found.only shown; same = found.same shown; bound = found.bound; all = found.replayed shown; synced = found.synced shown } in
+    let store : Stored = record { log = c.in_ok-wal.wal; last = m.last; now = map_in m.map.entries; broken = false } in
+    opens c.names_one.ensures (folder_of (site.disk c.args.site.now)) (site.disk c.read_logs.new.site) (site.disk c.create.new.site) store m.greatest c.in_ok-number.number
+    read c.in_ok-number.ensures.next.0 c.in_ok-number.ensures.next.1 (c.in_ok-wal.ensures.created shown) c.in_ok-wal.ensures.made
+
+pub returns-in_err-memory-clause-corrupt : goal.returns-in_err-memory-clause-corrupt
+returns-in_err-memory-clause-corrupt g c = λ shown name place is.
+    let p = err_from_is_err_and c.from_residual.result c.from_residual.ensures.1 in
+    let e : c.in_err-memory.field-0.0 ≡ Corrupt name place = cc (is, p.1, p.2) in
+    c.in_err-memory.ensures.corrupt shown name place (ap Err e)
+
+pub returns-in_err-number-clause-full : goal.returns-in_err-number-clause-full
+returns-in_err-number-clause-full g c = λ shown number is.
+    let p = err_from_is_err_and c.from_residual-in_err-number.result c.from_residual-in_err-number.ensures.1 in
+    let e : Full (10 ^ 15) ≡ Full number = cc (is, p.1, p.2, c.in_err-number.ensures.full.0) in
+    let m = c.in_ok-memory.memory in
+    let found = c.in_ok-memory.ensures in
+    let limit = c.in_err-number.ensures.full.1 in
+    let n = none_left (folder_of (g.S.Site.disk c.args.site.now)) (map_in m.map.entries) m.last m.greatest (10 ^ 15) (found.only shown) (found.replayed shown) found.bound refl (next_is m.greatest (10 ^ 15) limit) in
+    let one : 10 ^ 15 ≡ number = cc e in
+    (sym one, n.0, n.1)
+
+pub returns-in_err-memory-clause-before : goal.returns-in_err-memory-clause-before
+returns-in_err-memory-clause-before g c = λ shown. read_before g.S.Site.clock g.S.Site.left_since g.S.Site.disk g.S.Site.told g.S.Site.may_be (folder_of (g.S.Site.disk c.args.site.now)) c.args.site.now c.read_logs.new.site (c.read_logs.ensures.before shown)
+
+pub returns-in_err-memory-clause-cuts : goal.returns-in_err-memory-clause-cuts
+returns-in_err-memory-clause-cuts g c = λ shown sure log older own synced last whole on.
+    let site = g.S.Site in
+    let old = c.args.site.now in
+    read_stands site.clock site.left_since site.disk site.told site.may_be c.cuts_stand.ensures old (λ other. g.met.S.Site.only shown old other sure) log older own synced last on
+    c.read_logs.new.site (c.read_logs.ensures.cuts shown (stands_reads log older own synced last (site.disk old) whole on))
+
+pub returns-in_err-number-clause-before : goal.returns-in_err-number-clause-before
+returns-in_err-number-clause-before g c = λ shown. read_before g.S.Site.clock g.S.Site.left_since g.S.Site.disk g.S.Site.told g.S.Site.may_be (folder_of (g.S.Site.disk c.args.site.now)) c.args.site.now c.read_logs.new.site (c.read_logs.ensures.before shown)
+
+pub returns-in_err-number-clause-cuts : goal.returns-in_err-number-clause-cuts
+returns-in_err-number-clause-cuts g c = λ shown sure log older own synced last whole on.
+    let site = g.S.Site in
+    let old = c.args.site.now in
+    read_stands site.clock site.left_since site.disk site.told site.may_be c.cuts_stand.ensures old (λ other. g.met.S.Site.only shown old other sure) log older own synced last on
+    c.read_logs.new.site (c.read_logs.ensures.cuts shown (stands_reads log older own synced last (site.disk old) whole on))
+
+pub returns-in_err-wal-clause-before : goal.returns-in_err-wal-clause-before
+returns-in_err-wal-clause-before g c = λ shown.
+    let site = g.S.Site in
+    let old = c.args.site.now in
+    let mid = c.read_logs.new.site in
+    let m = c.in_ok-memory.memory in
+    let found = c.in_ok-memory.ensures in
+    let next = c.in_ok-number.ensures.next in
+    let read : WasRead (folder_of (site.disk c.args.site.now)) (site.disk c.read_logs.new.site) (map_in m.map.entries) m.last m.greatest =
+    record { only = found.only shown; same = found.same shown; bound = found.bound; all = found.replayed shown; synced = found.synced shown } in
+    let is : IsNumber c.in_ok-number.number = (omega (arith, next.0), next.1) in
+    made_before site.clock site.left_since site.disk site.told site.may_be (folder_of (site.disk old)) c.in_ok-number.number old mid c.create.new.site
+    (g.met.S.Site.counts_now shown mid) (c.read_logs.ensures.told shown) is (is_next (folder_of (site.disk old)) (map_in m.map.entries) m.last m.greatest c.in_ok-number.number read.all next.0)
+    (c.read_logs.ensures.before shown) (c.create.ensures.time shown)
+
+pub returns-in_err-wal-clause-cuts : goal.returns-in_err-wal-clause-cuts
+returns-in_err-wal-clause-cuts g c = λ shown sure log older own synced last whole on.
+    let site = g.S.Site in
+    let old = c.args.site.now in
+    let mid = c.read_logs.new.site in
+    let m = c.in_ok-memory.memory in
+    let found = c.in_ok-memory.ensures in
+    let next = c.in_ok-number.ensures.next in
+    let read : WasRead (folder_of (site.disk c.args.site.now)) (site.disk c.read_logs.new.site) (map_in m.map.entries) m.last m.greatest =
+    record { only = found.only shown; same = found.same shown; bound = found.bound; all = found.replayed shown; synced = found.synced shown } in
+    made_stands site.clock site.left_since site.disk site.told site.may_be c.cuts_stand.ensures old (λ other. g.met.S.Site.only shown old other sure) log older own synced last on
+    c.names_one.ensures c.batches_are_once.ensures c.stores_stand.ensures mid c.create.new.site (map_in m.map.entries) m.last m.greatest c.in_ok-number.number whole
+    (g.met.S.Site.counts_now shown mid) (c.read_logs.ensures.told shown) (λ other. g.met.S.Site.only shown mid other (c.read_logs.ensures.certain shown sure)) read next.0 next.1
+    (c.read_logs.ensures.cuts shown (stands_reads log older own synced last (site.disk old) whole on)) (c.create.ensures.time shown)
+
+pub returns-clause-before : goal.returns-clause-before
+returns-clause-before g c = λ shown.
+    let site = g.S.Site in
+    let old = c.args.site.now in
+    let mid = c.read_logs.new.site in
+    let m = c.in_ok-memory.memory in
+    let found = c.in_ok-memory.ensures in
+    let next = c.in_ok-number.ensures.next in
+    let read : WasRead (folder_of (site.disk c.args.site.now)) (site.disk c.read_logs.new.site) (map_in m.map.entries) m.last m.greatest =
+    record { only = found.only shown; same = found.same shown; bound = found.bound; all = found.replayed shown; synced = found.synced shown } in
+    let is : IsNumber c.in_ok-number.number = (omega (arith, next.0), next.1) in
+    made_before site.clock site.left_since site.disk site.told site.may_be (folder_of (site.disk old)) c.in_ok-number.number old mid c.create.new.site
+    (g.met.S.Site.counts_now shown mid) (c.read_logs.ensures.told shown) is (is_next (folder_of (site.disk old)) (map_in m.map.entries) m.last m.greatest c.in_ok-number.number read.all next.0)
+    (c.read_logs.ensures.before shown) (c.create.ensures.time shown)
+
+pub returns-clause-cuts : goal.returns-clause-cuts
+returns-clause-cuts g c = λ shown sure log older own synced last whole on.
+    let site = g.S.Site in
+    let old = c.args.site.now in
+    let mid = c.read_logs.new.site in
+    let m = c.in_ok-memory.memory in
+    let found = c.in_ok-memory.ensures in
+    let next = c.in_ok-number.ensures.next in
+    let read : WasRead (folder_of (site.disk c.args.site.now)) (site.disk c.read_logs.new.site) (map_in m.map.entries) m.last m.greatest =
+    record { only = found.only shown; same = found.same shown; bound = found.bound; all = found.replayed shown; synced = found.synced shown } in
+    made_stands site.clock site.left_since site.disk site.told site.may_be c.cuts_stand.ensures old (λ other. g.met.S.Site.only shown old other sure) log older own synced last on
+    c.names_one.ensures c.batches_are_once.ensures c.stores_stand.ensures mid c.create.new.site (map_in m.map.entries) m.last m.greatest c.in_ok-number.number whole
+    (g.met.S.Site.counts_now shown mid) (c.read_logs.ensures.told shown) (λ other. g.met.S.Site.only shown mid other (c.read_logs.ensures.certain shown sure)) read next.0 next.1
+    (c.read_logs.ensures.cuts shown (stands_reads log older own synced last (site.disk old) whole on)) (c.create.ensures.time shown)

@@ -1,9 +1,10 @@
-use Rattle.std.proofs.Common.{length, ap, subst, Err, inl, inr}
+use Rattle.std.proofs.Common.{ℕ, length, arith, ap, subst, Err, inl, inr}
 use Rattle.bl_site.specs.Disk.{Disk}
 use Rattle.bl_wal.specs.LogFile.{LogFile}
 use Rattle.bl_store.specs.Stored.{Stored, map_in, StandsOn, Carries}
 use Rattle.bl_store.proofs.CarryLemmas.{changes}
 use Rattle.bl_store.proofs.FolderLemmas.{sync_keeps}
+use Rattle.bl_store.proofs.MomentLemmas.{still_stands, sync_stands}
 use Rattle.bl_store.proofs.store.Store.sync.Goals as goal
 
 pub returns-in-Err-clause-held : goal.returns-in-Err-clause-held
@@ -34,3 +35,32 @@ returns-clause-carried g c = λ shown older own synced.
 
 pub returns-clause-reads : goal.returns-clause-reads
 returns-clause-reads g c = λ shown. sync_keeps _ (g.S.Site.disk c.args.site.now) (g.S.Site.disk c.sync.new.site) (c.in_default.ensures.synced shown)
+
+pub returns-then-self-clause-cuts : goal.returns-then-self-clause-cuts
+returns-then-self-clause-cuts g c = λ shown sure older own synced carries.
+    let site = g.S.Site in
+    let old = c.args.site.now in
+    let store = c.args.self.now in
+    still_stands site.clock site.left_since site.disk site.told site.may_be c.cuts_stand.ensures old (g.met.S.Site.only_now shown old) (λ other. g.met.S.Site.only shown old other sure)
+    store.log older own synced store.last carries.on
+
+pub returns-in-Err-clause-cuts : goal.returns-in-Err-clause-cuts
+returns-in-Err-clause-cuts g c = λ shown sure older own synced carries.
+    let site = g.S.Site in
+    let old = c.args.site.now in
+    let store = c.args.self.now in
+    let new = c.sync.new.site in
+    sync_stands site.clock site.left_since site.disk site.told site.may_be c.cuts_stand.ensures old (g.met.S.Site.only_now shown old) (λ other. g.met.S.Site.only shown old other sure)
+    store.log older own synced store.last carries.on new c.sync.new.self synced (c.sync.ensures.told shown)
+    (λ other. g.met.S.Site.only shown new other (c.sync.ensures.certain shown sure)) (c.sync.ensures.time shown) (omega arith) (returns-in-Err-clause-held g c shown older own synced carries)
+
+pub returns-clause-cuts : goal.returns-clause-cuts
+returns-clause-cuts g c = λ shown sure older own synced carries.
+    let site = g.S.Site in
+    let old = c.args.site.now in
+    let store = c.args.self.now in
+    let new = c.sync.new.site in
+    let L : ℕ → Type 0 = λ l. StandsOn c.sync.new.self older own (length own) l (site.disk new) in
+    sync_stands site.clock site.left_since site.disk site.told site.may_be c.cuts_stand.ensures old (g.met.S.Site.only_now shown old) (λ other. g.met.S.Site.only shown old other sure)
+    store.log older own synced store.last carries.on new c.sync.new.self (length own) (c.sync.ensures.told shown)
+    (λ other. g.met.S.Site.only shown new other (c.sync.ensures.certain shown sure)) (c.sync.ensures.time shown) carries.on.holds.within (subst L (ap (λ (s : Stored). s.last) c.self.view_is) (returns-clause-carried g c shown older own synced carries).on)

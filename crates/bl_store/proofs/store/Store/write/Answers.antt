@@ -1,6 +1,7 @@
-use Rattle.std.proofs.Common.{◌+◌, ◌∷◌, ◌++◌, [], length, ◌∙◌, ap, subst, refl, inr, true}
-use Rattle.bl_store.specs.Stored.{Stored, map_in, next_batch, Carries, MayHold}
+use Rattle.std.proofs.Common.{ℕ, ◌+◌, ◌∷◌, ◌++◌, [], length, ◌∙◌, ap, subst, refl, inr, true}
+use Rattle.bl_store.specs.Stored.{Stored, map_in, next_batch, StandsOn, Carries, MayHold}
 use Rattle.bl_store.proofs.CarryLemmas.{carried, may_hold, changes, more_follow}
+use Rattle.bl_store.proofs.MomentLemmas.{still_stands_more, append_stands}
 use Rattle.bl_store.proofs.store.Store.write.Goals as goal
 
 pub returns-in-Err-clause-held : goal.returns-in-Err-clause-held
@@ -38,3 +39,55 @@ returns-clause-carried g c = λ shown older own synced.
     carried c.records_are_batches.ensures.next c.names_one.ensures here c.append.new.self (c.self.inside.last + c.from-count.result) (map_in c.put_operations.new.map.entries) c.self.inside.broken
     c.args.batch.now older own synced old new c.append.ensures.number (ap (λ n. c.self.inside.last + n) (c.from-count.ensures ∙ c.count.ensures))
     (c.in_default.ensures.appended shown).puts.others (c.in_default.ensures.holds shown own synced carries.on.holds) c.in_default.ensures.reads c.in_default-put_operations.ensures.put carries)
+
+pub returns-then-self-clause-cuts : goal.returns-then-self-clause-cuts
+returns-then-self-clause-cuts g c = λ shown sure older own synced carries.
+    let site = g.S.Site in
+    let old = c.args.site.now in
+    let store = c.args.self.now in
+    let b = next_batch store c.args.batch.now in
+    still_stands_more site.clock site.left_since site.disk site.told site.may_be c.cuts_stand.ensures old (g.met.S.Site.only_now shown old) (λ other. g.met.S.Site.only shown old other sure)
+    store.log older own synced store.last carries.on (b ∷ [])
+
+pub returns-then-self-gt-MAX_SEQUENCE-clause-cuts : goal.returns-then-self-gt-MAX_SEQUENCE-clause-cuts
+returns-then-self-gt-MAX_SEQUENCE-clause-cuts g c = λ shown sure older own synced carries.
+    let site = g.S.Site in
+    let old = c.args.site.now in
+    let store = c.args.self.now in
+    let b = next_batch store c.args.batch.now in
+    still_stands_more site.clock site.left_since site.disk site.told site.may_be c.cuts_stand.ensures old (g.met.S.Site.only_now shown old) (λ other. g.met.S.Site.only shown old other sure)
+    store.log older own synced store.last carries.on (b ∷ [])
+
+pub returns-in-Err-clause-cuts : goal.returns-in-Err-clause-cuts
+returns-in-Err-clause-cuts g c = λ shown sure older own synced carries.
+    let site = g.S.Site in
+    let old = c.args.site.now in
+    let store = c.args.self.now in
+    let b = next_batch store c.args.batch.now in
+    let new = c.append.new.site in
+    append_stands site.clock site.left_since site.disk site.told site.may_be c.cuts_stand.ensures old (g.met.S.Site.only_now shown old) (λ other. g.met.S.Site.only shown old other sure)
+    store.log older own synced store.last carries.on new c.append.new.self (b ∷ []) (store.last + length c.args.batch.now) (c.append.ensures.told shown)
+    (λ other. g.met.S.Site.only shown new other (c.append.ensures.certain shown sure)) (c.append.ensures.time shown) (returns-in-Err-clause-held g c shown older own synced carries)
+
+pub returns-in-Err-put_operations-clause-cuts : goal.returns-in-Err-put_operations-clause-cuts
+returns-in-Err-put_operations-clause-cuts g c = λ shown sure older own synced carries.
+    let site = g.S.Site in
+    let old = c.args.site.now in
+    let store = c.args.self.now in
+    let b = next_batch store c.args.batch.now in
+    let new = c.append.new.site in
+    append_stands site.clock site.left_since site.disk site.told site.may_be c.cuts_stand.ensures old (g.met.S.Site.only_now shown old) (λ other. g.met.S.Site.only shown old other sure)
+    store.log older own synced store.last carries.on new c.append.new.self (b ∷ []) (store.last + length c.args.batch.now) (c.append.ensures.told shown)
+    (λ other. g.met.S.Site.only shown new other (c.append.ensures.certain shown sure)) (c.append.ensures.time shown) (returns-in-Err-put_operations-clause-held g c shown older own synced carries)
+
+pub returns-clause-cuts : goal.returns-clause-cuts
+returns-clause-cuts g c = λ shown sure older own synced carries.
+    let site = g.S.Site in
+    let old = c.args.site.now in
+    let store = c.args.self.now in
+    let b = next_batch store c.args.batch.now in
+    let new = c.append.new.site in
+    let L : ℕ → Type 0 = λ l. StandsOn c.append.new.self older (own ++ b ∷ []) synced l (site.disk new) in
+    append_stands site.clock site.left_since site.disk site.told site.may_be c.cuts_stand.ensures old (g.met.S.Site.only_now shown old) (λ other. g.met.S.Site.only shown old other sure)
+    store.log older own synced store.last carries.on new c.append.new.self (b ∷ []) (store.last + length c.args.batch.now) (c.append.ensures.told shown)
+    (λ other. g.met.S.Site.only shown new other (c.append.ensures.certain shown sure)) (c.append.ensures.time shown) (inr (subst L (ap (λ n. c.self.inside.last + n) (c.from-count.ensures ∙ c.count.ensures) ∙ ap (λ (s : Stored). s.last + length c.args.batch.now) c.self.view_is) (returns-clause-carried g c shown older own synced carries).on))

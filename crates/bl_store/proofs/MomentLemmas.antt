@@ -1,0 +1,75 @@
+-- What a cut leaves of a store's disk, in one call.
+use Rattle.std.proofs.Common.{◌≡◌, ◌⊎◌, ⊎_elim, ℕ, ◌≤◌, List, ◌++◌, sym, subst, arith, length-append}
+use Rattle.std.proofs.lemmas.List.{take-append-le}
+use Rattle.bl_site.specs.Disk.{Disk, Cut, IsCut, MayLeave}
+use Rattle.bl_site.specs.Calls.{Elapses, LeavesOnly}
+use Rattle.bl_site.proofs.Moments.{started, goes_on, cut_of_only}
+use Rattle.bl_entry.specs.Batches.{Batch}
+use Rattle.bl_wal.specs.LogFile.{LogFile}
+use Rattle.bl_store.specs.Folders.{Stands}
+use Rattle.bl_store.specs.Laws.{CutsStand}
+use Rattle.bl_store.specs.Stored.{StandsOn}
+use Rattle.bl_store.specs.Cuts.{LeavesFirst}
+use Rattle.bl_store.proofs.CutLemmas.{OnlyNow}
+
+-- at least so many are at least fewer
+pub at_least : (older own : List Batch) (fewer least : ℕ) (told : List ℕ) (c : Cut) → fewer ≤ least → LeavesFirst older own least told c → LeavesFirst older own fewer told c
+at_least older own fewer least told c le leaves = record {
+  told_is = leaves.told_is;
+  stands = λ chance. let s = leaves.stands chance in (s.0, omega (arith, le, s.1), s.2, s.3);
+}
+
+-- the first ones are the first ones of more
+pub of_more : (older own more : List Batch) (least : ℕ) (told : List ℕ) (c : Cut) → LeavesFirst older own least told c → LeavesFirst older (own ++ more) least told c
+of_more older own more least told c leaves = record {
+  told_is = leaves.told_is;
+  stands = λ chance.
+      let s = leaves.stands chance in
+      let P : List Batch → Type 0 = λ bs. Stands c.folder (older ++ bs) s.3.0 in
+      (s.0, s.1, omega (arith, s.2, length-append own more), (s.3.0, subst P (sym (take-append-le s.0 own more s.2)) s.3.1));
+}
+
+module _ {D : Type 0} (clock : D → ℕ) (left_since : D → ℕ → Cut → Type 0) (disk : D → Disk) (told : D → List ℕ) (may_be : D → Disk → Type 0) (stand : CutsStand)
+    (old : D) (only_now : OnlyNow clock left_since told may_be old) (only : (other : Disk) → may_be old other → other ≡ disk old) where
+  -- one call more, after which no name call is in doubt
+  one_stands : (new : D) (P : List ℕ → Cut → Type 0) → told new ≡ told old → ((other : Disk) → may_be new other → other ≡ disk new)
+      → Elapses (clock old) (clock new) (left_since old) (left_since new) (MayLeave (may_be new) (told new))
+      → ((c : Cut) → IsCut (disk old) (told old) c → P (told old) c) → ((c : Cut) → IsCut (disk new) (told new) c → P (told new) c) → LeavesOnly clock left_since old new (P (told old))
+  one_stands new P same only_new time before after =
+      goes_on clock left_since old old new (P (told old)) (MayLeave (may_be new) (told new))
+      (started clock left_since old (P (told old)) (λ c left. before c (cut_of_only (may_be old) (disk old) (told old) c only (only_now c left)))) time
+      (λ c leaves. subst (λ (t : List ℕ). P t c) same (after c (cut_of_only (may_be new) (disk new) (told new) c only_new leaves)))
+
+  module _ (log : LogFile) (older own : List Batch) (synced last : ℕ) (on : StandsOn log older own synced last (disk old)) where
+    -- no call
+    pub still_stands : LeavesOnly clock left_since old old (LeavesFirst older own synced (told old))
+    still_stands =
+        started clock left_since old (LeavesFirst older own synced (told old))
+        (λ c left. stand log older own synced last (disk old) (told old) c on (cut_of_only (may_be old) (disk old) (told old) c only (only_now c left)))
+
+    pub still_stands_more : (more : List Batch) → LeavesOnly clock left_since old old (LeavesFirst older (own ++ more) synced (told old))
+    still_stands_more more =
+        started clock left_since old (LeavesFirst older (own ++ more) synced (told old))
+        (λ c left. of_more older own more synced (told old) c (stand log older own synced last (disk old) (told old) c on (cut_of_only (may_be old) (disk old) (told old) c only (only_now c left))))
+
+    -- an append, whatever was answered
+    pub append_stands : (new : D) (log_next : LogFile) (more : List Batch) (last_next : ℕ) → told new ≡ told old → ((other : Disk) → may_be new other → other ≡ disk new)
+        → Elapses (clock old) (clock new) (left_since old) (left_since new) (MayLeave (may_be new) (told new))
+        → StandsOn log_next older own synced last (disk new) ⊎ StandsOn log_next older (own ++ more) synced last_next (disk new)
+        → LeavesOnly clock left_since old new (LeavesFirst older (own ++ more) synced (told old))
+    append_stands new log_next more last_next same only_new time after =
+        one_stands new (LeavesFirst older (own ++ more) synced) same only_new time
+        (λ c is. of_more older own more synced (told old) c (stand log older own synced last (disk old) (told old) c on is))
+        (λ c is. ⊎_elim
+        (λ s. of_more older own more synced (told new) c (stand log_next older own synced last (disk new) (told new) c s is))
+        (λ s. stand log_next older (own ++ more) synced last_next (disk new) (told new) c s is)
+        after)
+
+    -- a sync, whatever was answered
+    pub sync_stands : (new : D) (log_next : LogFile) (synced_next : ℕ) → told new ≡ told old → ((other : Disk) → may_be new other → other ≡ disk new)
+        → Elapses (clock old) (clock new) (left_since old) (left_since new) (MayLeave (may_be new) (told new))
+        → synced ≤ synced_next → StandsOn log_next older own synced_next last (disk new)
+        → LeavesOnly clock left_since old new (LeavesFirst older own synced (told old))
+    sync_stands new log_next synced_next same only_new time le after =
+        one_stands new (LeavesFirst older own synced) same only_new time (λ c is. stand log older own synced last (disk old) (told old) c on is)
+        (λ c is. at_least older own synced synced_next (told new) c le (stand log_next older own synced_next last (disk new) (told new) c after is))

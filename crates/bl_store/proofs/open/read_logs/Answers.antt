@@ -1,0 +1,29 @@
+use Rattle.std.proofs.Common.{sym, subst}
+use Rattle.bl_site.specs.Disk.{Disk, MayLeave}
+use Rattle.bl_store.specs.Cuts.{LeavesFound, AreReadAsWritten}
+use Rattle.bl_store.proofs.CutLemmas.{all_found, then_left, then_found}
+use Rattle.bl_store.proofs.open.read_logs.Goals as goal
+
+pub returns-clause-before : goal.returns-clause-before
+returns-clause-before g c = λ shown.
+    let site = g.S.Site in
+    let law = g.met.S.Site in
+    let old = c.args.site.now in
+    let listed = c.list_logs.new.site in
+    let synced = c.sync_logs.new.site in
+    let first = all_found site.clock site.left_since site.told site.may_be old listed (c.list_logs.ensures.cuts shown) in
+    let second = then_found site.clock site.left_since site.told site.may_be old listed synced (law.counts_now shown listed) (c.list_logs.ensures.told shown) first (c.sync_logs.ensures.before shown) in
+    then_left site.clock site.left_since site.told site.may_be old synced c.replay_logs.new.site (LeavesFound (site.may_be old) (site.told old)) (law.counts_now shown synced) second (c.replay_logs.ensures.cuts shown)
+
+pub returns-clause-cuts : goal.returns-clause-cuts
+returns-clause-cuts g c = λ shown reads.
+    let site = g.S.Site in
+    let law = g.met.S.Site in
+    let old = c.args.site.now in
+    let listed = c.list_logs.new.site in
+    let synced = c.sync_logs.new.site in
+    let P = MayLeave (site.may_be old) (site.told old) in
+    let R : Disk → Type 0 = AreReadAsWritten in
+    let still = subst R (sym (c.list_logs.ensures.stays shown).same) reads in
+    let second = then_left site.clock site.left_since site.told site.may_be old listed synced P (law.counts_now shown listed) (c.list_logs.ensures.cuts shown) (c.sync_logs.ensures.cuts shown still) in
+    then_left site.clock site.left_since site.told site.may_be old synced c.replay_logs.new.site P (law.counts_now shown synced) second (c.replay_logs.ensures.cuts shown)

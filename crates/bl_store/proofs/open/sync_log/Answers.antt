@@ -1,0 +1,59 @@
+use Rattle.std.proofs.Common.{◌∙◌, ap, sym}
+use Rattle.bl_site.proofs.Images.{sync_outcome}
+use Rattle.bl_store.proofs.CutLemmas.{SyncsOnce, once_found, once_left}
+use Rattle.bl_store.proofs.open.sync_log.Given as given
+use Rattle.bl_store.proofs.open.sync_log.Goals as goal
+
+-- a sync that fails
+failed : (g : given.Over) (c : goal.After-drop-name g) → g.S.Site.shows → SyncsOnce g.S.Site.clock g.S.Site.left_since g.S.Site.disk g.S.Site.told g.S.Site.may_be c.as_str.result.now c.args.site.now c.sync.new.self
+failed g c shown =
+    let site = g.S.Site in
+    let old = c.args.site.now in
+    let name = c.as_str.result.now in
+    let answer = c.sync.ensures in
+    record {
+      only = g.met.S.Site.only_now shown old;
+      remnant = g.met.S.Site.remnant shown old name;
+      outcome = sync_outcome name (site.disk old) (site.disk c.sync.new.self) c.sync.result (answer.done shown) (answer.failed shown) (λ e. (answer.memory shown e).same) answer.cause.not_tell;
+      follows = answer.doubt shown;
+      told_same = answer.told shown;
+      time = answer.time shown;
+    }
+
+pub returns-in_err-sync-clause-before : goal.returns-in_err-sync-clause-before
+returns-in_err-sync-clause-before g c = λ shown.
+    let site = g.S.Site in
+    once_found site.clock site.left_since site.disk site.told site.may_be c.as_str.result.now c.args.site.now c.sync.new.self (failed g c shown)
+
+pub returns-in_err-sync-clause-cuts : goal.returns-in_err-sync-clause-cuts
+returns-in_err-sync-clause-cuts g c = λ shown reads.
+    let site = g.S.Site in
+    once_left site.clock site.left_since site.disk site.told site.may_be c.as_str.result.now c.args.site.now c.sync.new.self (failed g c shown)
+    (λ file is. reads c.args.number file c.requires.number (ap (site.disk c.args.site.now) (sym (c.as_str.ensures.value ∙ c.in_ok-name.ensures)) ∙ is))
+
+-- and one that is done
+done : (g : given.Over) (c : goal.After-drop-name-2 g) → g.S.Site.shows → SyncsOnce g.S.Site.clock g.S.Site.left_since g.S.Site.disk g.S.Site.told g.S.Site.may_be c.as_str.result.now c.args.site.now c.sync.new.self
+done g c shown =
+    let site = g.S.Site in
+    let old = c.args.site.now in
+    let name = c.as_str.result.now in
+    let answer = c.sync.ensures in
+    record {
+      only = g.met.S.Site.only_now shown old;
+      remnant = g.met.S.Site.remnant shown old name;
+      outcome = sync_outcome name (site.disk old) (site.disk c.sync.new.self) c.sync.result (answer.done shown) (answer.failed shown) (λ e. (answer.memory shown e).same) answer.cause.not_tell;
+      follows = answer.doubt shown;
+      told_same = answer.told shown;
+      time = answer.time shown;
+    }
+
+pub returns-clause-before : goal.returns-clause-before
+returns-clause-before g c = λ shown.
+    let site = g.S.Site in
+    once_found site.clock site.left_since site.disk site.told site.may_be c.as_str.result.now c.args.site.now c.sync.new.self (done g c shown)
+
+pub returns-clause-cuts : goal.returns-clause-cuts
+returns-clause-cuts g c = λ shown reads.
+    let site = g.S.Site in
+    once_left site.clock site.left_since site.disk site.told site.may_be c.as_str.result.now c.args.site.now c.sync.new.self (done g c shown)
+    (λ file is. reads c.args.number file c.requires.number (ap (site.disk c.args.site.now) (sym (c.as_str.ensures.value ∙ c.in_ok-name.ensures)) ∙ is))
