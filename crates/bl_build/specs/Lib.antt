@@ -1,5 +1,6 @@
 pub mod Chains
 pub mod Laws
 pub mod Listing
+pub mod Restoring
 pub mod Snapshots
 pub mod Versions
