@@ -1,0 +1,6 @@
+mod EditLemmas
+mod HeldLemmas
+mod LawLemmas
+mod ProgressLemmas
+mod TimeLemmas
+mod WritingLemmas

@@ -1,0 +1,7 @@
+pub mod Causes
+pub mod Held
+pub mod Laws
+pub mod ManifestFile
+pub mod Progress
+pub mod Restores
+pub mod Writing

@@ -1,0 +1,48 @@
+-- What the disk is once bytes were written to a file and synced, and on the way there.
+use Rattle.std.specs.Prelude.{◌≡◌, ◌⊎◌, ℕ, ◌≤◌, List, [], ◌++◌, length, Some}
+use Rattle.bl_site.specs.Disk.{Name, File, Disk, Cut, MayLeave}
+use Rattle.bl_site.specs.Calls.{Puts, AppendsAny, Syncs, Frays, Elapses}
+
+-- a new file of these bytes, all of them on the disk
+abbrev pub MakesSynced : Name → List ℕ → Disk → Disk → Type 0
+MakesSynced name bytes = Puts name (record { read = bytes; front = bytes; handed = [] })
+
+-- a new file to which none of these bytes were handed over, or all; they may be on the disk
+pub record MakesPartly (name : Name) (bytes : List ℕ) (old new : Disk) : Type 0 where
+  pub file : File
+  pub puts : Puts name file old new
+  pub written : (file.front ++ file.handed ≡ []) ⊎ (file.front ++ file.handed ≡ bytes)
+
+-- these bytes follow in the file, all of which is on the disk
+pub record AppendsSynced (name : Name) (bytes : List ℕ) (old new : Disk) : Type 0 where
+  pub file : File
+  pub was : old name ≡ Some file
+  pub puts : Puts name (record { read = file.read ++ bytes; front = file.read ++ bytes; handed = [] }) old new
+
+-- These bytes were handed over. What reads behind the synced bytes are any bytes, at most as many as were handed over.
+pub record Tears (name : Name) (bytes : List ℕ) (old new : Disk) : Type 0 where
+  pub file : File
+  pub was : old name ≡ Some file
+  pub tail : List ℕ
+  pub no_longer : length tail ≤ length (file.handed ++ bytes)
+  pub puts : Puts name (record { read = file.front ++ tail; front = file.front; handed = file.handed ++ bytes }) old new
+
+-- these bytes were handed over, and all that the file read may be on the disk
+pub record AppendsPartly (name : Name) (bytes : List ℕ) (old new : Disk) : Type 0 where
+  pub file : File
+  pub was : old name ≡ Some file
+  pub now : File
+  pub puts : Puts name now old new
+  pub written : ((now.front ≡ file.front) × (now.handed ≡ file.handed ++ bytes)) ⊎ ((now.front ≡ file.read ++ bytes) × (now.handed ≡ []))
+
+-- a disk that there may be: an old one in which, wherever a name call in doubt puts this file, it stands as it has become
+abbrev pub Follows : Name → (was now : Disk) → (old : Disk → Type 0) → Disk → Type 0
+Follows name was now old disk = (before : Disk) × old before × ((other : Name) → (disk other ≡ before other) ⊎ ((before other ≡ was name) × (disk other ≡ now name)))
+
+-- Bytes are appended to a file and it is synced, while name calls may be in doubt. Each disk that there may be then follows one that there may be between the two calls, and that follows an old one; a cut finds one of all these.
+pub record AppendsInDoubt {D : Type 0} (disk : D → Disk) (may_be : D → Disk → Type 0) (told : D → List ℕ) (clock : D → ℕ) (left_since : D → ℕ → Cut → Type 0) (name : Name) (bytes : List ℕ) (old new : D) : Type 0 where
+  pub mid : Disk
+  pub appends : (mid ≡ disk old) ⊎ AppendsAny name bytes (disk old) mid
+  pub syncs : (disk new ≡ mid) ⊎ (Syncs name mid (disk new) ⊎ Frays name mid (disk new))
+  pub follows : (d : Disk) → may_be new d → Follows name mid (disk new) (Follows name (disk old) mid (may_be old)) d
+  pub time : Elapses (clock old) (clock new) (left_since old) (left_since new) (MayLeave (λ d. Follows name (disk old) mid (may_be old) d ⊎ may_be new d) (told old))

@@ -1,0 +1,190 @@
+//! A manifest that is written.
+
+ghost use Rattle.std.specs.Prelude.{◌≡◌, ◌⊎◌, ℕ, ◌+◌, ◌≤◌, [], ◌∷◌, ◌++◌, true, false, IsSome, IfOk, IfErr, OnOk, OnErr, IsErrOf};
+ghost use Rattle.bl_site.specs.Disk.{Cut, MayLeave};
+ghost use Rattle.bl_site.specs.Calls.{Appends, DoneOrNot, MayDuring, InDoubt, Elapses};
+ghost use Rattle.bl_site.specs.Causes.{Rose};
+ghost use Rattle.bl_names.specs.Names.{IsNumber, manifest_name};
+ghost use Rattle.bl_edit.specs.Bounds.{IsEdit};
+ghost use Rattle.bl_manifest.specs.Causes.{IsCause, AsksUpTo, more};
+ghost use Rattle.bl_manifest.specs.ManifestFile.{new_manifest, record_bytes, behind};
+ghost use Rattle.bl_manifest.specs.Writing.{MakesSynced, MakesPartly, AppendsSynced, AppendsPartly, AppendsInDoubt, Tears};
+ghost use Rattle.bl_manifest.specs.Held.{Edits, AreReadBack, HoldsEdits, HoldsOneMore, ReadsEdits};
+
+use crate::error::ManifestErr;
+use crate::laws::synced_manifests_are_left;
+use bl_edit::{Edit, encode_edit};
+use bl_log::LogWriter;
+use bl_names::{FileName, print_name};
+use bl_site::Site;
+use std::alloc::Global;
+use std::marker::Model;
+
+/// A manifest that is written: its number, and where its next record stands. A contract sees also whether a call of it has failed.
+#[derive(Drop)]
+pub struct Manifest {
+    name: String,
+    number: u64,
+    writer: LogWriter,
+    failed: bool,
+}
+
+impl Model for Manifest {
+    ghost use Rattle.std.specs.Prelude.{◌≡◌, string_bytes};
+    ghost use Rattle.bl_names.specs.Names.{IsNumber, manifest_name};
+    ghost use Rattle.bl_manifest.specs.ManifestFile.{ManifestFile};
+
+    ghost Value = { ManifestFile };
+
+    ghost view = { λ m. record { number = m.number; place = m.writer; failed = m.failed } };
+
+    ghost invariant = { λ m. IsNumber m.number × (string_bytes m.name ≡ manifest_name m.number) };
+}
+
+// The bytes follow in the file, which is in the folder, and then all of it is on the disk.
+fn append_synced<S: Site>(site: &mut S, name: &str, bytes: &[u8]) -> Result<(), ManifestErr>
+    requires { S.shows → IsSome (S.disk site.old name.now) }
+    ensures appended { S.shows → OnOk result (AppendsSynced name.now bytes.now (S.disk site.old) (S.disk site.new)) }
+    ensures torn { S.shows → IsErrOf result ManifestErr.Disk → Tears name.now bytes.now (S.disk site.old) (S.disk site.new) }
+    ensures memory { S.shows → IsErrOf result ManifestErr.OutOfMemory → DoneOrNot (Appends name.now bytes.now bytes.now) (S.disk site.old) (S.disk site.new) }
+    ensures certain { S.shows → S.certain site.old → S.certain site.new }
+    ensures time { S.shows → S.certain site.old → Elapses (S.clock site.old) (S.clock site.new) (S.left_since site.old) (S.left_since site.new)
+        (MayLeave (DoneOrNot (AppendsPartly name.now bytes.now) (S.disk site.old)) (S.told site.old)) }
+    ensures doubt { S.shows → AppendsInDoubt S.disk S.may_be S.told S.clock S.left_since name.now bytes.now site.old site.new }
+    ensures told { S.shows → S.told site.new ≡ S.told site.old }
+    ensures causes { IfErr result IsCause }
+    ensures disk { IsErrOf result ManifestErr.Disk → Rose (S.disk_faults site.old) (S.disk_faults site.new) }
+    ensures later { S.disk_faults site.old ≤ S.disk_faults site.new }
+    ensures tell_faults { S.tell_faults site.new ≡ S.tell_faults site.old }
+    ensures changes { OnOk result (S.changes site.new ≡ more 2 (S.changes site.old)) }
+    ensures asked { OnErr result (AsksUpTo 2 (S.changes site.old) (S.changes site.new)) }
+{
+    site.append(name, bytes)?;
+    site.sync(name)?;
+    Ok(())
+}
+
+impl Manifest {
+    /// Makes the manifest of this number, from 1 to 10^15 - 1, with one edit, which is in the bounds of the format, and syncs it.
+    ///
+    /// Errors: `Disk` and `OutOfMemory`. After both the folder is as it was, or the file is new and reads as any bytes, at most as
+    /// many as the edit's record has. After `OutOfMemory` before the folder was asked nothing has changed.
+    pub fn create<S: Site>(
+        alloc: Global,
+        site: &mut S,
+        number: u64,
+        first: &Edit,
+    ) -> Result<Manifest, ManifestErr>
+        requires number { IsNumber number }
+        requires bounds { IsEdit first.now }
+        ensures made { IfOk result (λ manifest. manifest ≡ behind (new_manifest number) (record_bytes 0 first.now)) }
+        ensures created { S.shows → OnOk result (MakesSynced (manifest_name number) (record_bytes 0 first.now) (S.disk site.old) (S.disk site.new)) }
+        ensures left { S.shows → OnErr result (DoneOrNot (MakesPartly (manifest_name number) (record_bytes 0 first.now)) (S.disk site.old) (S.disk site.new)) }
+        ensures certain { S.shows → OnOk result (S.certain site.new) }
+
+        // It holds this edit, which is synced.
+        ensures holds { S.shows → OnOk result (HoldsEdits (S.disk site.new) (behind (new_manifest number) (record_bytes 0 first.now)) (first.now ∷ []) 1) }
+
+        // What a cut during it, or after it, may leave.
+        ensures doubt { S.shows → InDoubt (MakesPartly (manifest_name number) (record_bytes 0 first.now)) (S.may_be site.old) (S.may_be site.new) }
+        ensures time { S.shows → Elapses (S.clock site.old) (S.clock site.new) (S.left_since site.old) (S.left_since site.new)
+            (MayLeave (MayDuring (MakesPartly (manifest_name number) (record_bytes 0 first.now)) (S.may_be site.old)) (S.told site.old)) }
+
+        ensures told { S.shows → S.told site.new ≡ S.told site.old }
+        ensures causes { IfErr result IsCause }
+        ensures disk { IsErrOf result ManifestErr.Disk → Rose (S.disk_faults site.old) (S.disk_faults site.new) }
+        ensures later { S.disk_faults site.old ≤ S.disk_faults site.new }
+        ensures tell_faults { S.tell_faults site.new ≡ S.tell_faults site.old }
+        ensures changes { OnOk result (S.changes site.new ≡ more 3 (S.changes site.old)) }
+        ensures asked { IsErrOf result ManifestErr.Disk → AsksUpTo 3 (S.changes site.old) (S.changes site.new) }
+        ensures memory { IsErrOf result ManifestErr.OutOfMemory → (site.new ≡ site.old) ⊎ AsksUpTo 3 (S.changes site.old) (S.changes site.new) }
+    {
+        let name = print_name(alloc, &FileName::Manifest(number))?;
+        let payload = encode_edit(alloc, first)?;
+        let mut writer = LogWriter::start();
+        let bytes = writer.frame(alloc, payload.as_slice())?;
+        site.create(name.as_str())?;
+        append_synced(site, name.as_str(), bytes.as_slice())?;
+        Ok(Manifest {
+            name,
+            number,
+            writer,
+            failed: false,
+        })
+    }
+
+    /// Appends an edit, which is in the bounds of the format, as one record, and then syncs the file: at Ok every cut reads the
+    /// edit. The manifest is in the folder, and no call of it has failed.
+    ///
+    /// Errors: `Disk`, after which the edit may be there or not, and what reads behind the synced bytes are any bytes, at most as
+    /// many as were handed over; `OutOfMemory`, after which the edit was appended or not. After `OutOfMemory` before the folder was
+    /// asked nothing has changed, and after every other failure the manifest has failed.
+    pub fn append<S: Site>(
+        &mut self,
+        alloc: Global,
+        site: &mut S,
+        edit: &Edit,
+    ) -> Result<(), ManifestErr>
+        requires usable { self.old.failed ≡ false }
+        requires bounds { IsEdit edit.now }
+        requires there { S.shows → IsSome (S.disk site.old (manifest_name self.old.number)) }
+        ensures appended { S.shows → OnOk result (AppendsSynced (manifest_name self.old.number) (record_bytes self.old.place edit.now) (S.disk site.old) (S.disk site.new)) }
+        ensures moved { OnOk result (self.new ≡ behind self.old (record_bytes self.old.place edit.now)) }
+        ensures torn { S.shows → IsErrOf result ManifestErr.Disk → Tears (manifest_name self.old.number) (record_bytes self.old.place edit.now) (S.disk site.old) (S.disk site.new) }
+        ensures memory { S.shows → IsErrOf result ManifestErr.OutOfMemory
+            → DoneOrNot (Appends (manifest_name self.old.number) (record_bytes self.old.place edit.now) (record_bytes self.old.place edit.now)) (S.disk site.old) (S.disk site.new) }
+
+        // It holds one edit more, also where the folder failed: then some of its bytes may be lost.
+        ensures holds { S.shows → (edits : Edits) (synced : ℕ) → HoldsEdits (S.disk site.old) self.old edits synced
+            → HoldsOneMore result (S.disk site.new) self.new edits edit.now synced }
+
+        // The record is read as this edit.
+        ensures reads { OnOk result (AreReadBack (edit.now ∷ [])) }
+        ensures reads_asked { self.new.failed ≡ true → AreReadBack (edit.now ∷ []) }
+
+        // At Ok every cut reads the edit, where no name call is in doubt.
+        ensures durable { S.shows → S.certain site.old → OnOk result ((edits : Edits) (synced : ℕ) → HoldsEdits (S.disk site.old) self.old edits synced
+            → (c : Cut) → MayLeave (S.may_be site.new) (S.told site.new) c → ReadsEdits c.folder self.old.number (edits ++ edit.now ∷ [])) }
+
+        // It has failed exactly after `Disk`, and after `OutOfMemory` once the folder was asked; else nothing has changed.
+        ensures disk_fails { IsErrOf result ManifestErr.Disk → self.new.failed ≡ true }
+        ensures asked_fails { self.new.failed ≡ true → AsksUpTo 2 (S.changes site.old) (S.changes site.new) }
+        ensures stays { OnErr result (self.new.failed ≡ false → (self.new ≡ self.old) × (site.new ≡ site.old)) }
+        ensures asked { OnOk result (S.changes site.new ≡ more 2 (S.changes site.old)) }
+        ensures number { self.new.number ≡ self.old.number }
+
+        // What a cut during it, or after it, may leave: where no name call is in doubt, and in every case.
+        ensures certain { S.shows → S.certain site.old → S.certain site.new }
+        ensures time { S.shows → S.certain site.old → Elapses (S.clock site.old) (S.clock site.new) (S.left_since site.old) (S.left_since site.new)
+            (MayLeave (DoneOrNot (AppendsPartly (manifest_name self.old.number) (record_bytes self.old.place edit.now)) (S.disk site.old)) (S.told site.old)) }
+        ensures doubt { S.shows → AppendsInDoubt S.disk S.may_be S.told S.clock S.left_since (manifest_name self.old.number) (record_bytes self.old.place edit.now) site.old site.new }
+
+        ensures told { S.shows → S.told site.new ≡ S.told site.old }
+        ensures causes { IfErr result IsCause }
+        ensures disk { IsErrOf result ManifestErr.Disk → Rose (S.disk_faults site.old) (S.disk_faults site.new) }
+        ensures later { S.disk_faults site.old ≤ S.disk_faults site.new }
+        ensures tell_faults { S.tell_faults site.new ≡ S.tell_faults site.old }
+    {
+        synced_manifests_are_left();
+        let payload = encode_edit(alloc, edit)?;
+        let bytes = self.writer.frame(alloc, payload.as_slice())?;
+        let done = append_synced(site, self.name.as_str(), bytes.as_slice());
+        self.failed = done.is_err();
+        done
+    }
+
+    /// The file's number.
+    pub fn number(&self) -> u64
+        ensures { result ≡ self.now.number }
+    {
+        self.number
+    }
+
+    /// Whether a call of it has failed: it answered `Disk`, or `OutOfMemory` once the folder was asked. No other call may follow
+    /// but `number`.
+    pub fn failed(&self) -> bool
+        ensures { result ≡ self.now.failed }
+    {
+        self.failed
+    }
+}
