@@ -1,0 +1,9 @@
+mod Finding
+mod FrameLemmas
+mod FreshLemmas
+mod FrontLemmas
+mod LogLemmas
+mod OneLemmas
+mod ReachLemmas
+mod Rows
+mod SettledLemmas

@@ -1,0 +1,12 @@
+pub mod Files
+pub mod Logs
+pub mod Live
+pub mod References
+pub mod Holding
+pub mod Entries
+pub mod Stands
+pub mod Fronts
+pub mod Needed
+pub mod Numbers
+pub mod Settled
+pub mod Laws
