@@ -21,7 +21,12 @@ fn advice(status: Status) -> Option<&'static str> {
         Status::OutOfMemory => Some(
             "memory ran out: start again with more of it, or with smaller values",
         ),
-        Status::Corrupt => Some("the folder is not empty: start in an empty one"),
+        Status::Corrupt => Some(
+            "a file of the folder is damaged or none of its logs; the reply names it: start in another folder, or on a copy",
+        ),
+        Status::Full => Some(
+            "no sequence or no file number is left; the reply says which: copy what a scan tells to a new folder",
+        ),
         Status::Long => Some("the script has more than 2^40 bytes: split it"),
     }
 }

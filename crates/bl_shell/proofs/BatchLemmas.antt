@@ -1,24 +1,26 @@
--- Batches: their bytes, and lists of them.
-use Rattle.std.proofs.Common.{◌≡◌, ℕ, ◌+◌, List, [], ◌∷◌, ◌++◌, length, refl, sym, ◌∙◌, ap, arith, append_assoc, append-nil}
-use Rattle.bl_code.specs.Numbers.{fixed32, fixed64, slice}
-use Rattle.bl_shell.specs.Writes.{Batch, Puts, batch_bytes, batches_from, operations_in}
+-- The batch of some operations, one after another.
+use Rattle.std.proofs.Common.{◌≡◌, ℕ, zero, suc, ◌+◌, ◌<◌, List, [], ◌∷◌, ◌++◌, map, length, take, get_or, sym, ◌∙◌, ap, arith, add-one, length-take}
+use Rattle.std.specs.Prelude.{min}
+use Rattle.std.proofs.Math.Seq.{take-suc}
+use Rattle.std.proofs.lemmas.List.{map-append, length-map}
+use Rattle.std.specs.List.{AllByRecursion}
+use Rattle.bl_script.specs.declared.command.Operation.{Operation as Ordered}
+use Rattle.bl_entry.specs.declared.batch.Operation.{Operation}
+use Rattle.bl_shell.specs.Machine.{operation}
 
--- a put, spelled by the calls of the writers one after another
-pub spelled_put : (sequence : ℕ) (key value z a b c d e : List ℕ) → z ≡ [] → a ≡ z ++ fixed64 sequence → b ≡ a ++ fixed32 1 → c ≡ b ++ 1 ∷ [] → d ≡ c ++ slice key → e ≡ d ++ slice value
-    → e ≡ batch_bytes sequence (Puts key value ∷ [])
-unfolding batch_bytes
-spelled_put sequence key value z a b c d e ez ea eb ec ed ee =
-    ee ∙ rw (ed, ec, eb, ea, ez) (simp append_assoc) ∙ ap (λ s. fixed64 sequence ++ (fixed32 1 ++ s)) (sym (append-nil (1 ∷ (slice key ++ slice value))))
+pub at_place : (P : Ordered → Type 0) (xs : List Ordered) (k : ℕ) (d : Ordered) → k < length xs → AllByRecursion P xs → P (get_or xs k d)
+at_place P [] k d lt all = absurd (omega (arith, lt))
+at_place P (x ∷ xs) zero d lt all = all.0
+at_place P (x ∷ xs) (suc k) d lt all = at_place P xs k d (omega (arith, lt)) all.1
 
--- a batch more
-pub batches_more : (batches : List Batch) (batch : Batch) (n : ℕ) → batches_from n (batches ++ batch ∷ []) ≡ batches_from n batches ++ batch_bytes (n + operations_in batches) batch ∷ []
-unfolding batches_from operations_in
-batches_more [] batch n = let e : n + 0 ≡ n = omega arith in ap (λ k. batch_bytes k batch ∷ []) (sym e)
-batches_more (b ∷ batches) batch n =
-    let e : n + length b + operations_in batches ≡ n + (length b + operations_in batches) = omega arith in
-    ap (λ bs. batch_bytes n b ∷ bs) (batches_more batches batch (n + length b) ∙ ap (λ k. batches_from (n + length b) batches ++ batch_bytes k batch ∷ []) e)
+pub so_far : (os : List Ordered) (k : ℕ) (batch : List Operation) → k < length os → batch ≡ map operation (take k os) → length batch ≡ k
+so_far os k batch lt is = ap length is ∙ length-map (take k os) operation ∙ length-take k os ∙ shorter
+  where
+    shorter : min k (length os) ≡ k
+    shorter = omega (arith, lt)
 
-pub operations_more : (batches : List Batch) (batch : Batch) → operations_in (batches ++ batch ∷ []) ≡ operations_in batches + length batch
-unfolding operations_in
-operations_more [] batch = omega arith
-operations_more (b ∷ batches) batch = omega (arith, operations_more batches batch)
+pub one_more : (os : List Ordered) (k : ℕ) (o : Ordered) (batch next : List Operation) → k < length os → get_or os k o ≡ o → batch ≡ map operation (take k os) → next ≡ batch ++ operation o ∷ []
+    → next ≡ map operation (take (k + 1) os)
+one_more os k o batch next lt at is grown =
+    grown ∙ ap (λ b. b ++ operation o ∷ []) is ∙ sym (map-append operation (take k os) (o ∷ []))
+    ∙ ap (map operation) (ap (λ x. take k os ++ x ∷ []) (sym at) ∙ sym (ap (λ n. take n os) (add-one k) ∙ take-suc os k o lt))

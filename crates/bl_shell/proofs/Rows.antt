@@ -1,37 +1,91 @@
--- Worked rows: what some scripts order, and what a put writes.
-use Rattle.std.proofs.Common.{◌≡◌, ℕ, List, [], ◌∷◌, codes, refl}
-use Rattle.bl_code.specs.Numbers.{fixed32, fixed64, varint}
-use Rattle.bl_shell.specs.declared.script.Command.TheVariants.{Put, Get}
-use Rattle.bl_shell.specs.declared.script.Refusal.TheVariants.{Syntax}
-use Rattle.bl_shell.specs.declared.script.Parsed.TheVariants.{Refused, Go}
-use Rattle.bl_shell.specs.Script.{orders, lines_in, words_in}
-use Rattle.bl_shell.specs.Writes.{Puts, batch_bytes}
+-- Worked rows: what the machine tells, and what it writes.
+use Rattle.std.proofs.Common.{◌≡◌, ℕ, List, [], ◌∷◌, codes, map, refl, ap}
+use Rattle.std.specs.FinMap.{empty, get-insert, get-remove}
+use Rattle.std.specs.Cmp.Lexicographic.{nat_list_cmp_total}
+use Rattle.bl_script.specs.Printing.{value_line}
+use Rattle.bl_entry.specs.Batches.{put_of, deletion_of}
+use Rattle.bl_entry.specs.Revisions.{Map}
+use Rattle.bl_script.specs.declared.command.Command.TheVariants as command
+use Rattle.bl_script.specs.declared.command.Parsed.TheVariants.{Nothing, Refused, Go}
+use Rattle.bl_script.specs.declared.command.Refusal.TheVariants.{Syntax}
+use Rattle.bl_shell.specs.Machine.{Write, Line, after_writes, numbered, operations_in, reply, reply_of, writes_of}
+use Rattle.bl_shell.specs.Synced.{whole_within, before_sync, synced, begun}
 
--- a put, and two reads
-put_and_get : orders (codes "put a =xyz\nget a\nget b\n") ≡ Go (Put (codes "a") (codes "xyz")) ∷ Go (Get (codes "a")) ∷ Go (Get (codes "b")) ∷ []
-unfolding lines_in words_in
-put_and_get = refl
+-- `put a =1`, then what is read
+one : Map
+one = after_writes ((put_of (codes "a") (codes "1") ∷ []) ∷ []) empty
 
--- an empty script has no line; a last line needs no end, and a 0x0D at a line's end is dropped
-no_lines : orders [] ≡ []
-unfolding lines_in
-no_lines = refl
+read_back : reply (command.Get (codes "a")) one ≡ codes "value =1\n"
+unfolding one after_writes
+read_back = ap value_line (get-insert nat_list_cmp_total empty (codes "a") (codes "1") (codes "a"))
 
-ends : orders (codes "get a\r\n  get   b") ≡ Go (Get (codes "a")) ∷ Go (Get (codes "b")) ∷ []
-unfolding lines_in words_in
-ends = refl
+-- and after `del a`
+gone : reply (command.Get (codes "a")) (after_writes ((deletion_of (codes "a") ∷ []) ∷ []) one) ≡ codes "none\n"
+unfolding one after_writes
+gone = ap value_line (get-remove nat_list_cmp_total one (codes "a") (codes "a"))
 
--- an empty value is a value
-empty_value : orders (codes "put a =") ≡ Go (Put (codes "a") []) ∷ []
-unfolding lines_in words_in
-empty_value = refl
+-- a blank line tells nothing, and a refusal is a reply that writes nothing
+blank : reply_of Nothing one ≡ []
+blank = refl
 
--- a blank line, a comment, a percent sign, a tab in a word, another verb
-refused : orders (codes "\n#\nput %41 =1\nget a\tb\ndel a\nput a 1\n") ≡ Refused Syntax ∷ Refused Syntax ∷ Refused Syntax ∷ Refused Syntax ∷ Refused Syntax ∷ Refused Syntax ∷ []
-unfolding lines_in words_in
+refused : reply_of (Refused Syntax) one ≡ codes "refused syntax\n"
 refused = refl
 
--- the batch of the first put, 19 bytes
-first_batch : batch_bytes 1 (Puts (codes "a") (codes "xyz") ∷ []) ≡ 1 ∷ 0 ∷ 0 ∷ 0 ∷ 0 ∷ 0 ∷ 0 ∷ 0 ∷ 1 ∷ 0 ∷ 0 ∷ 0 ∷ 1 ∷ 1 ∷ 97 ∷ 3 ∷ 120 ∷ 121 ∷ 122 ∷ []
-unfolding batch_bytes fixed32 fixed64 varint
-first_batch = refl
+writes_nothing : writes_of (Refused Syntax) ≡ []
+writes_nothing = refl
+
+-- of a batch the last operation on a key stands: `batch put b =2 del c put b =3`
+batch : Write
+batch = put_of (codes "b") (codes "2") ∷ deletion_of (codes "c") ∷ put_of (codes "b") (codes "3") ∷ []
+
+last_stands : reply (command.Get (codes "b")) (after_writes (batch ∷ []) empty) ≡ codes "value =3\n"
+unfolding batch after_writes
+last_stands = ap value_line (get-insert nat_list_cmp_total (after_writes ((put_of (codes "b") (codes "2") ∷ deletion_of (codes "c") ∷ []) ∷ []) empty) (codes "b") (codes "3") (codes "b"))
+
+-- each operation takes a sequence
+sequences : numbered 2 (batch ∷ (deletion_of (codes "b") ∷ []) ∷ []) ≡ record { first = 2; operations = batch } ∷ record { first = 5; operations = deletion_of (codes "b") ∷ [] } ∷ []
+unfolding batch numbered
+sequences = refl
+
+count : operations_in (batch ∷ (deletion_of (codes "b") ∷ []) ∷ []) ≡ 4
+unfolding batch operations_in
+count = refl
+
+-- `put a =1`, `put b =2`, `sync`, `put c =3`: by the bytes of replies told, how many writes are synced, and how many are begun
+put_line : List ℕ → Line
+put_line key = record { order = Go (command.Put key (codes "1")); wrote = (put_of key (codes "1") ∷ []) ∷ []; told = codes "ok\n" }
+
+sync_line : Line
+sync_line = record { order = Go command.Sync; wrote = []; told = codes "ok\n" }
+
+reopen_line : Line
+reopen_line = record { order = Go command.Reopen; wrote = []; told = codes "ok\n" }
+
+get_line : Line
+get_line = record { order = Go (command.Get (codes "z")); wrote = []; told = codes "none\n" }
+
+comment : Line
+comment = record { order = Nothing; wrote = []; told = [] }
+
+four_lines : List Line
+four_lines = put_line (codes "a") ∷ put_line (codes "b") ∷ sync_line ∷ put_line (codes "c") ∷ []
+
+synced_in_four : map (λ count. synced count four_lines) (0 ∷ 1 ∷ 2 ∷ 3 ∷ 4 ∷ 5 ∷ 6 ∷ 7 ∷ 8 ∷ 9 ∷ 10 ∷ 11 ∷ 12 ∷ []) ≡ 0 ∷ 0 ∷ 0 ∷ 0 ∷ 0 ∷ 0 ∷ 0 ∷ 0 ∷ 0 ∷ 2 ∷ 2 ∷ 2 ∷ 2 ∷ []
+unfolding four_lines put_line sync_line whole_within before_sync
+synced_in_four = refl
+
+begun_in_four : map (λ count. begun count four_lines) (0 ∷ 1 ∷ 2 ∷ 3 ∷ 4 ∷ 5 ∷ 6 ∷ 7 ∷ 8 ∷ 9 ∷ 10 ∷ 11 ∷ 12 ∷ []) ≡ 1 ∷ 1 ∷ 1 ∷ 2 ∷ 2 ∷ 2 ∷ 2 ∷ 2 ∷ 2 ∷ 3 ∷ 3 ∷ 3 ∷ 3 ∷ []
+unfolding four_lines put_line sync_line begun
+begun_in_four = refl
+
+-- a comment tells nothing, and neither it nor `get` stands between: `put a =1`, `#`, `reopen`, `get z`, `put b =1`
+other_lines : List Line
+other_lines = put_line (codes "a") ∷ comment ∷ reopen_line ∷ get_line ∷ put_line (codes "b") ∷ []
+
+synced_in_others : map (λ count. synced count other_lines) (0 ∷ 3 ∷ 5 ∷ 6 ∷ 10 ∷ 11 ∷ 13 ∷ 14 ∷ []) ≡ 0 ∷ 0 ∷ 0 ∷ 1 ∷ 1 ∷ 1 ∷ 1 ∷ 1 ∷ []
+unfolding other_lines put_line reopen_line get_line comment whole_within before_sync
+synced_in_others = refl
+
+begun_in_others : map (λ count. begun count other_lines) (0 ∷ 3 ∷ 5 ∷ 6 ∷ 10 ∷ 11 ∷ 13 ∷ 14 ∷ []) ≡ 1 ∷ 1 ∷ 1 ∷ 1 ∷ 1 ∷ 2 ∷ 2 ∷ 2 ∷ []
+unfolding other_lines put_line reopen_line get_line comment begun
+begun_in_others = refl

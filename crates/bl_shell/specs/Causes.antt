@@ -1,14 +1,27 @@
 -- How a failed call ends a run.
-use Rattle.std.specs.Prelude.{◌≡◌, ◌⊎◌, ℕ, ◌+◌, ◌-◌, ◌^◌, ◌≤◌, min}
+use Rattle.std.specs.Prelude.{◌≡◌, ◌⊎◌, ℕ, ◌+◌, ◌-◌, ◌^◌, ◌≤◌, min, List, ◌++◌}
 use Rattle.bl_site.specs.declared.site.SiteErr.{SiteErr}
 use Rattle.bl_site.specs.declared.site.SiteErr.TheVariants as site
+use Rattle.bl_store.specs.declared.error.StoreErr.{StoreErr}
+use Rattle.bl_store.specs.declared.error.StoreErr.TheVariants as store
+use Rattle.bl_shell.specs.Carried.{TellsFront}
+use Rattle.bl_shell.specs.declared.stop.Stop.{Stop}
+use Rattle.bl_shell.specs.declared.stop.Stop.TheVariants as stop
 use Rattle.bl_shell.specs.declared.status.Status.{Status}
-use Rattle.bl_shell.specs.declared.status.Status.TheVariants.{Done, Words, TellFault, DiskFault, OutOfMemory, ReadFault, Long, Corrupt}
+use Rattle.bl_shell.specs.declared.status.Status.TheVariants.{Done, Words, TellFault, DiskFault, OutOfMemory, ReadFault, Long, Corrupt, Full}
 
-abbrev pub status_of : SiteErr → Status
-status_of site.DiskFailed = DiskFault
-status_of site.TellFailed = TellFault
-status_of site.OutOfMemory = OutOfMemory
+abbrev pub stop_of : SiteErr → Stop
+stop_of site.DiskFailed = stop.Disk
+stop_of site.TellFailed = stop.Tell
+stop_of site.OutOfMemory = stop.OutOfMemory
+
+-- a store that is broken was stopped by its disk before
+abbrev pub stop_of_store : StoreErr → Stop
+stop_of_store store.Disk = stop.Disk
+stop_of_store store.OutOfMemory = stop.OutOfMemory
+stop_of_store (store.Corrupt name place) = stop.Corrupt name place
+stop_of_store (store.Full number) = stop.Full number
+stop_of_store store.Broken = stop.Disk
 
 -- the exit status of the program
 abbrev pub number_of : Status → ℕ
@@ -19,20 +32,72 @@ number_of TellFault = 4
 number_of DiskFault = 5
 number_of OutOfMemory = 6
 number_of Corrupt = 7
+number_of Full = 8
 number_of Long = 10
 
--- what ends a run in mid-stream
-abbrev pub IsCause : Status → Type 0
-IsCause s = (s ≡ DiskFault) ⊎ (s ≡ TellFault) ⊎ (s ≡ OutOfMemory)
+-- a stop with no line to tell
+abbrev pub IsSilent : Stop → Type 0
+IsSilent stop.Read = Unit {0}
+IsSilent stop.Tell = Unit {0}
+IsSilent stop.Disk = Unit {0}
+IsSilent stop.OutOfMemory = Unit {0}
+IsSilent stop.Long = Unit {0}
+IsSilent (stop.Corrupt name place) = ⊥
+IsSilent (stop.Full number) = ⊥
 
--- the same, with what the script brings
-abbrev pub IsEnd : Status → Type 0
-IsEnd s = (s ≡ DiskFault) ⊎ (s ≡ TellFault) ⊎ (s ≡ OutOfMemory) ⊎ (s ≡ ReadFault) ⊎ (s ≡ Long)
-
--- how a run over a folder with names in it may end
-abbrev pub IsRefusal : Status → Type 0
-IsRefusal s = (s ≡ Corrupt) ⊎ (s ≡ DiskFault) ⊎ (s ≡ TellFault) ⊎ (s ≡ OutOfMemory)
+-- a stop inside a line: not for what the script brings
+abbrev pub IsInner : Stop → Type 0
+IsInner stop.Read = ⊥
+IsInner stop.Tell = Unit {0}
+IsInner stop.Disk = Unit {0}
+IsInner stop.OutOfMemory = Unit {0}
+IsInner stop.Long = ⊥
+IsInner (stop.Corrupt name place) = Unit {0}
+IsInner (stop.Full number) = Unit {0}
 
 -- more bytes were taken than the limit, or the count stands where it cannot rise
 abbrev pub TookOver : ℕ → ℕ → ℕ → Type 0
 TookOver limit before now = min (before + limit + 1) (2 ^ 64 - 1) ≤ now
+
+-- a stop for what the script brings
+abbrev pub IsReading : Stop → Type 0
+IsReading stop.Read = Unit {0}
+IsReading stop.Tell = ⊥
+IsReading stop.Disk = ⊥
+IsReading stop.OutOfMemory = ⊥
+IsReading stop.Long = Unit {0}
+IsReading (stop.Corrupt name place) = ⊥
+IsReading (stop.Full number) = ⊥
+
+-- how an opening may stop a run, but for a limit
+abbrev pub IsOpening : Stop → Type 0
+IsOpening stop.Read = ⊥
+IsOpening stop.Tell = ⊥
+IsOpening stop.Disk = Unit {0}
+IsOpening stop.OutOfMemory = Unit {0}
+IsOpening stop.Long = ⊥
+IsOpening (stop.Corrupt name place) = Unit {0}
+IsOpening (stop.Full number) = ⊥
+
+-- the status of a stop, where its line, if it has one, is told
+abbrev pub status_of : Stop → Status
+status_of stop.Read = ReadFault
+status_of stop.Tell = TellFault
+status_of stop.Disk = DiskFault
+status_of stop.OutOfMemory = OutOfMemory
+status_of stop.Long = Long
+status_of (stop.Corrupt name place) = Corrupt
+status_of (stop.Full number) = Full
+
+-- a stop ends the run with its status; or its line could not be told
+abbrev pub MayEnd : Stop → Status → Type 0
+MayEnd s status = (status ≡ status_of s) ⊎ ((status ≡ TellFault) ⊎ (status ≡ OutOfMemory))
+
+-- the last line was told, and the status is this one; or a front of it, or nothing
+abbrev pub EndsAs : Status → Status → List ℕ → List ℕ → List ℕ → Type 0
+EndsAs meant status line told told_after =
+    ((status ≡ meant) × (told_after ≡ told ++ line)) ⊎ ((status ≡ TellFault) × TellsFront line told told_after) ⊎ ((status ≡ OutOfMemory) × (told_after ≡ told))
+
+-- how a run over a damaged folder may end
+abbrev pub IsRefusal : Status → Type 0
+IsRefusal s = (s ≡ Corrupt) ⊎ (s ≡ DiskFault) ⊎ (s ≡ TellFault) ⊎ (s ≡ OutOfMemory)

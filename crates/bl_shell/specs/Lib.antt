@@ -1,9 +1,6 @@
-pub mod Script
-pub mod Short
-pub mod Writes
 pub mod Machine
-pub mod Folders
+pub mod Synced
 pub mod Carried
 pub mod Telling
-pub mod Listed
+pub mod Cuts
 pub mod Causes

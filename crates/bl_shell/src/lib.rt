@@ -1,13 +1,13 @@
 //! The top call: a script in, replies and a folder out.
 #![tactic(auto)]
 
+mod batch;
 mod lines;
-mod script;
+mod obey;
 mod serve;
 mod status;
-mod store;
+mod stop;
 mod top;
 
-pub use script::{Command, Parsed, Refusal};
 pub use status::Status;
 pub use top::run;

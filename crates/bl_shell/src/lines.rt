@@ -1,22 +1,23 @@
 //! The line in hand.
 
 ghost use Rattle.std.specs.Prelude.{◌≡◌, ◌≤◌, ◌<◌, ℕ, List, [], ◌++◌, length, IfOk, OnOk, IfErr, IsTrue, ◌↔◌, false};
-ghost use Rattle.bl_shell.specs.Script.{without_return, parsed};
-ghost use Rattle.bl_shell.specs.Short.{IsShort};
+ghost use Rattle.bl_script.specs.Lines.{without_return};
+ghost use Rattle.bl_script.specs.Parsing.{parsed};
+ghost use Rattle.bl_script.specs.Limits.{IsWithinLimits};
 
-use crate::script::{MOST, Parsed, Refusal, parse_line, without_return};
-use crate::status::Status;
+use crate::stop::Stop;
+use bl_script::{MAX_LINE, Parsed, Refusal, parse_line, without_return};
 use std::alloc::Global;
 
 // A line that is to be obeyed has these bytes at most, and one 0x0D that does not count.
-const KEPT: usize = MOST + 1;
+const KEPT: usize = MAX_LINE + 1;
 
 // The bytes of the script since its last whole line. Those of a line that is too long are not kept.
 #[derive(Drop)]
 pub(crate) struct LineInHand {
     pub(crate) bytes: Vec<u8>,
     pub(crate) long: bool,
-    ghost bounded: { length bytes.items ≤ 1001 },
+    ghost bounded: { length bytes.items ≤ 67108865 },
 }
 
 impl LineInHand {
@@ -33,9 +34,9 @@ impl LineInHand {
     }
 
     // More bytes of the line.
-    pub(crate) fn push(&mut self, bytes: &[u8]) -> Result<(), Status>
+    pub(crate) fn push(&mut self, bytes: &[u8]) -> Result<(), Stop>
         ensures ok { OnOk result ((front : List ℕ) → Holds self.old front → Holds self.new (front ++ bytes.now)) }
-        ensures memory { IfErr result (λ e. e ≡ Status.OutOfMemory) }
+        ensures memory { IfErr result (λ e. e ≡ Stop.OutOfMemory) }
     {
         if self.long {
             return Ok(());
@@ -50,10 +51,10 @@ impl LineInHand {
     }
 
     // What the whole line orders.
-    pub(crate) fn parse(&self, alloc: Global) -> Result<Parsed, Status>
+    pub(crate) fn parse(&self, alloc: Global) -> Result<Parsed, Stop>
         ensures parsed { IfOk result (λ p. (front : List ℕ) → Holds self.now front → p ≡ parsed (without_return front)) }
-        ensures short { IfOk result IsShort }
-        ensures memory { IfErr result (λ e. e ≡ Status.OutOfMemory) }
+        ensures within { IfOk result IsWithinLimits }
+        ensures memory { IfErr result (λ e. e ≡ Stop.OutOfMemory) }
     {
         if self.long {
             return Ok(Parsed::Refused(Refusal::Long));

@@ -1,16 +1,24 @@
 //! A script, piece by piece.
 
-ghost use Rattle.std.specs.Prelude.{◌≡◌, ℕ, ◌+◌, ◌-◌, ◌<◌, ◌≤◌, ◌^◌, List, [], ◌∷◌, ◌++◌, length, IfErr, OnOk, OnErr, IsErrOf, MatchOption, false, drop, slice_index, slice_range};
+ghost use Rattle.std.specs.Prelude.{◌≡◌, ℕ, ◌+◌, ◌-◌, ◌<◌, ◌≤◌, ◌^◌, List, [], ◌∷◌, ◌++◌, length, IfErr, OnOk, OnErr, IsErrOf, Err, MatchOption, false, drop, slice_index, slice_range, ◌⊎◌};
+ghost use Rattle.bl_site.specs.Disk.{Name, Folder, folder_of};
+ghost use Rattle.bl_site.specs.Calls.{LeavesOnly};
 ghost use Rattle.bl_site.specs.Causes.{Rose};
-ghost use Rattle.bl_shell.specs.Machine.{start};
-ghost use Rattle.bl_shell.specs.Causes.{IsCause, IsEnd, TookOver};
-ghost use Rattle.bl_shell.specs.Carried.{Carried, Finished, Logs, NoLineEnd};
-ghost use Rattle.bl_shell.specs.Telling.{HasBegun};
+ghost use Rattle.bl_shell.specs.Causes.{IsInner, IsReading, IsSilent, TookOver};
+ghost use Rattle.bl_shell.specs.Carried.{Carried, Starts, Finished, Steady, NoLineEnd};
+ghost use Rattle.bl_shell.specs.Cuts.{IsKept, Stops};
+ghost use Rattle.bl_shell.specs.Machine.{orders, Began};
+ghost use Rattle.bl_shell.specs.Synced.{CutOf};
+ghost use Rattle.bl_shell.specs.Telling.{Begins, HasRun, HasTaken, HasBegun};
 
 use crate::lines::LineInHand;
-use crate::status::Status;
-use crate::store::Store;
+use crate::obey::obey;
+use crate::stop::Stop;
 use bl_site::{Site, Source};
+use bl_store::{
+    Store, batches_make_the_map, cuts_stand, older_logs_are_synced, stores_stand,
+    synced_stores_are_left,
+};
 use memchr::memchr;
 use std::alloc::Global;
 
@@ -35,22 +43,33 @@ fn end_line<S: Site>(
     line: &mut LineInHand,
     alloc: Global,
     site: &mut S,
-) -> Result<(), Status>
-    requires room { store.old.next < 2 ^ 63 }
-    requires there { S.shows → (told script : List ℕ) × Carried told script store.old line.old (S.disk site.old) (S.told site.old) }
-    ensures ok { S.shows → OnOk result ((told : List ℕ) (script : List ℕ) → Carried told script store.old line.old (S.disk site.old) (S.told site.old)
-        → Carried told (script ++ 10 ∷ []) store.new line.new (S.disk site.new) (S.told site.new)) }
-    ensures front { S.shows → OnErr result ((told : List ℕ) (script more : List ℕ) → Carried told script store.old line.old (S.disk site.old) (S.told site.old)
-        → HasBegun (script ++ 10 ∷ more) told (S.told site.new)) }
+) -> Result<(), Stop>
+    requires usable { store.old.broken ≡ false }
+    requires there { S.shows → (began : Began) × ((folder : Folder) × ((told : List ℕ) × ((script : List ℕ) × ((start : S)
+        × Carried began folder told script store.old line.old (S.disk site.old) (S.told site.old) (Steady S.certain S.clock S.left_since start site.old))))) }
     ensures cleared { OnOk result ((line.new.long ≡ false) × (line.new.bytes.items ≡ [])) }
-    ensures next { OnOk result (store.new.next ≤ store.old.next + 1) }
-    ensures disk { IsErrOf result Status.DiskFault → Rose (S.disk_faults site.old) (S.disk_faults site.new) }
-    ensures tell { IsErrOf result Status.TellFault → Rose (S.tell_faults site.old) (S.tell_faults site.new) }
-    ensures causes { IfErr result IsCause }
+    ensures usable { OnOk result (store.new.broken ≡ false) }
+    ensures ok { S.shows → OnOk result ((began : Began) (folder : Folder) (told script : List ℕ) (start : S)
+        → Carried began folder told script store.old line.old (S.disk site.old) (S.told site.old) (Steady S.certain S.clock S.left_since start site.old)
+        → Carried began folder told (script ++ 10 ∷ []) store.new line.new (S.disk site.new) (S.told site.new) (Steady S.certain S.clock S.left_since start site.new)) }
+    ensures front { S.shows → IfErr result (λ e. IsSilent e → (began : Began) (folder : Folder) (told script more : List ℕ) (start : S) → Begins folder began
+        → Carried began folder told script store.old line.old (S.disk site.old) (S.told site.old) (Steady S.certain S.clock S.left_since start site.old)
+        → HasBegun folder (script ++ 10 ∷ more) told (S.told site.new)) }
+    ensures full { S.shows → (limit : ℕ) → result ≡ Err (Stop.Full limit) → (began : Began) (folder : Folder) (told script more : List ℕ) (start : S) → Begins folder began
+        → Carried began folder told script store.old line.old (S.disk site.old) (S.told site.old) (Steady S.certain S.clock S.left_since start site.old)
+        → Stops folder (script ++ 10 ∷ more) told (S.told site.new) limit (LeavesOnly S.clock S.left_since start site.new) }
+    ensures cuts { S.shows → (began : Began) (folder : Folder) (told script more : List ℕ) (start : S)
+        → Carried began folder told script store.old line.old (S.disk site.old) (S.told site.old) (Steady S.certain S.clock S.left_since start site.old)
+        → LeavesOnly S.clock S.left_since start site.new (CutOf began (orders (script ++ 10 ∷ more)) told) }
+    ensures corrupt { S.shows → (name : Name) (place : ℕ) → result ≡ Err (Stop.Corrupt name place) → ⊥ }
+    ensures disk { IsErrOf result Stop.Disk → Rose (S.disk_faults site.old) (S.disk_faults site.new) }
+    ensures tell { IsErrOf result Stop.Tell → Rose (S.tell_faults site.old) (S.tell_faults site.new) }
+    ensures causes { IfErr result IsInner }
     ensures later { (S.disk_faults site.old ≤ S.disk_faults site.new) × (S.tell_faults site.old ≤ S.tell_faults site.new) }
 {
+    batches_make_the_map();
     let order = line.parse(alloc)?;
-    store.obey(alloc, order, site)?;
+    obey(store, alloc, order, site)?;
     line.clear();
     Ok(())
 }
@@ -62,17 +81,27 @@ fn feed<S: Site>(
     alloc: Global,
     piece: &[u8],
     site: &mut S,
-) -> Result<(), Status>
-    requires room { store.old.next + length piece.now < 2 ^ 63 }
-    requires there { S.shows → (told script : List ℕ) × Carried told script store.old line.old (S.disk site.old) (S.told site.old) }
-    ensures ok { S.shows → OnOk result ((told : List ℕ) (script : List ℕ) → Carried told script store.old line.old (S.disk site.old) (S.told site.old)
-        → Carried told (script ++ piece.now) store.new line.new (S.disk site.new) (S.told site.new)) }
-    ensures front { S.shows → OnErr result ((told : List ℕ) (script more : List ℕ) → Carried told script store.old line.old (S.disk site.old) (S.told site.old)
-        → HasBegun (script ++ (piece.now ++ more)) told (S.told site.new)) }
-    ensures next { OnOk result (store.new.next ≤ store.old.next + length piece.now) }
-    ensures disk { IsErrOf result Status.DiskFault → Rose (S.disk_faults site.old) (S.disk_faults site.new) }
-    ensures tell { IsErrOf result Status.TellFault → Rose (S.tell_faults site.old) (S.tell_faults site.new) }
-    ensures causes { IfErr result IsCause }
+) -> Result<(), Stop>
+    requires usable { store.old.broken ≡ false }
+    requires there { S.shows → (began : Began) × ((folder : Folder) × ((told : List ℕ) × ((script : List ℕ) × ((start : S)
+        × Carried began folder told script store.old line.old (S.disk site.old) (S.told site.old) (Steady S.certain S.clock S.left_since start site.old))))) }
+    ensures usable { OnOk result (store.new.broken ≡ false) }
+    ensures ok { S.shows → OnOk result ((began : Began) (folder : Folder) (told script : List ℕ) (start : S)
+        → Carried began folder told script store.old line.old (S.disk site.old) (S.told site.old) (Steady S.certain S.clock S.left_since start site.old)
+        → Carried began folder told (script ++ piece.now) store.new line.new (S.disk site.new) (S.told site.new) (Steady S.certain S.clock S.left_since start site.new)) }
+    ensures front { S.shows → IfErr result (λ e. IsSilent e → (began : Began) (folder : Folder) (told script more : List ℕ) (start : S) → Begins folder began
+        → Carried began folder told script store.old line.old (S.disk site.old) (S.told site.old) (Steady S.certain S.clock S.left_since start site.old)
+        → HasBegun folder (script ++ (piece.now ++ more)) told (S.told site.new)) }
+    ensures full { S.shows → (limit : ℕ) → result ≡ Err (Stop.Full limit) → (began : Began) (folder : Folder) (told script more : List ℕ) (start : S) → Begins folder began
+        → Carried began folder told script store.old line.old (S.disk site.old) (S.told site.old) (Steady S.certain S.clock S.left_since start site.old)
+        → Stops folder (script ++ (piece.now ++ more)) told (S.told site.new) limit (LeavesOnly S.clock S.left_since start site.new) }
+    ensures cuts { S.shows → (began : Began) (folder : Folder) (told script more : List ℕ) (start : S)
+        → Carried began folder told script store.old line.old (S.disk site.old) (S.told site.old) (Steady S.certain S.clock S.left_since start site.old)
+        → LeavesOnly S.clock S.left_since start site.new (CutOf began (orders (script ++ (piece.now ++ more))) told) }
+    ensures corrupt { S.shows → (name : Name) (place : ℕ) → result ≡ Err (Stop.Corrupt name place) → ⊥ }
+    ensures disk { IsErrOf result Stop.Disk → Rose (S.disk_faults site.old) (S.disk_faults site.new) }
+    ensures tell { IsErrOf result Stop.Tell → Rose (S.tell_faults site.old) (S.tell_faults site.new) }
+    ensures causes { IfErr result IsInner }
     ensures later { (S.disk_faults site.old ≤ S.disk_faults site.new) × (S.tell_faults site.old ≤ S.tell_faults site.new) }
 {
     let mut at = 0;
@@ -86,27 +115,78 @@ fn feed<S: Site>(
 }
 
 // The script's end: a last line that no line end ends is obeyed too.
-fn finish<S: Site>(
+fn end_script<S: Site>(
     store: &mut Store,
     line: &mut LineInHand,
     alloc: Global,
     site: &mut S,
-) -> Result<(), Status>
-    requires room { store.old.next < 2 ^ 63 }
-    requires there { S.shows → (told script : List ℕ) × Carried told script store.old line.old (S.disk site.old) (S.told site.old) }
-    ensures ok { S.shows → OnOk result ((told : List ℕ) (script : List ℕ) → Carried told script store.old line.old (S.disk site.old) (S.told site.old)
-        → Finished script told store.new (S.disk site.new) (S.told site.new)) }
-    ensures front { S.shows → OnErr result ((told : List ℕ) (script : List ℕ) → Carried told script store.old line.old (S.disk site.old) (S.told site.old)
-        → HasBegun script told (S.told site.new)) }
-    ensures disk { IsErrOf result Status.DiskFault → Rose (S.disk_faults site.old) (S.disk_faults site.new) }
-    ensures tell { IsErrOf result Status.TellFault → Rose (S.tell_faults site.old) (S.tell_faults site.new) }
-    ensures causes { IfErr result IsCause }
+) -> Result<(), Stop>
+    requires usable { store.old.broken ≡ false }
+    requires there { S.shows → (began : Began) × ((folder : Folder) × ((told : List ℕ) × ((script : List ℕ) × ((start : S)
+        × Carried began folder told script store.old line.old (S.disk site.old) (S.told site.old) (Steady S.certain S.clock S.left_since start site.old))))) }
+    ensures usable { OnOk result (store.new.broken ≡ false) }
+    ensures ok { S.shows → OnOk result ((began : Began) (folder : Folder) (told script : List ℕ) (start : S)
+        → Carried began folder told script store.old line.old (S.disk site.old) (S.told site.old) (Steady S.certain S.clock S.left_since start site.old)
+        → Finished began folder script told store.new (S.disk site.new) (S.told site.new) (Steady S.certain S.clock S.left_since start site.new)) }
+    ensures front { S.shows → IfErr result (λ e. IsSilent e → (began : Began) (folder : Folder) (told script : List ℕ) (start : S) → Begins folder began
+        → Carried began folder told script store.old line.old (S.disk site.old) (S.told site.old) (Steady S.certain S.clock S.left_since start site.old)
+        → HasBegun folder script told (S.told site.new)) }
+    ensures full { S.shows → (limit : ℕ) → result ≡ Err (Stop.Full limit) → (began : Began) (folder : Folder) (told script : List ℕ) (start : S) → Begins folder began
+        → Carried began folder told script store.old line.old (S.disk site.old) (S.told site.old) (Steady S.certain S.clock S.left_since start site.old)
+        → Stops folder script told (S.told site.new) limit (LeavesOnly S.clock S.left_since start site.new) }
+    ensures cuts { S.shows → (began : Began) (folder : Folder) (told script : List ℕ) (start : S)
+        → Carried began folder told script store.old line.old (S.disk site.old) (S.told site.old) (Steady S.certain S.clock S.left_since start site.old)
+        → LeavesOnly S.clock S.left_since start site.new (CutOf began (orders script) told) }
+    ensures corrupt { S.shows → (name : Name) (place : ℕ) → result ≡ Err (Stop.Corrupt name place) → ⊥ }
+    ensures disk { IsErrOf result Stop.Disk → Rose (S.disk_faults site.old) (S.disk_faults site.new) }
+    ensures tell { IsErrOf result Stop.Tell → Rose (S.tell_faults site.old) (S.tell_faults site.new) }
+    ensures causes { IfErr result IsInner }
     ensures later { (S.disk_faults site.old ≤ S.disk_faults site.new) × (S.tell_faults site.old ≤ S.tell_faults site.new) }
 {
     if line.is_empty() {
         return Ok(());
     }
     end_line(store, line, alloc, site)
+}
+
+// The script's end: the last line is obeyed, and the log is synced.
+fn finish<S: Site>(
+    store: &mut Store,
+    line: &mut LineInHand,
+    alloc: Global,
+    site: &mut S,
+) -> Result<(), Stop>
+    requires usable { store.old.broken ≡ false }
+    requires there { S.shows → (began : Began) × ((folder : Folder) × ((told : List ℕ) × ((script : List ℕ) × ((start : S)
+        × Carried began folder told script store.old line.old (S.disk site.old) (S.told site.old) (Steady S.certain S.clock S.left_since start site.old))))) }
+    ensures ok { S.shows → OnOk result ((began : Began) (folder : Folder) (told script : List ℕ) (start : S) → Begins folder began
+        → Carried began folder told script store.old line.old (S.disk site.old) (S.told site.old) (Steady S.certain S.clock S.left_since start site.old)
+        → HasRun folder (folder_of (S.disk site.new)) script told (S.told site.new)) }
+    ensures kept { S.shows → OnOk result ((began : Began) (folder : Folder) (told script : List ℕ) (start : S) → Begins folder began
+        → Carried began folder told script store.old line.old (S.disk site.old) (S.told site.old) (Steady S.certain S.clock S.left_since start site.old)
+        → IsKept (S.certain site.new) (S.may_be site.new) (S.disk site.new) (S.told site.new) folder script) }
+    ensures front { S.shows → IfErr result (λ e. IsSilent e → (began : Began) (folder : Folder) (told script : List ℕ) (start : S) → Begins folder began
+        → Carried began folder told script store.old line.old (S.disk site.old) (S.told site.old) (Steady S.certain S.clock S.left_since start site.old)
+        → HasBegun folder script told (S.told site.new)) }
+    ensures full { S.shows → (limit : ℕ) → result ≡ Err (Stop.Full limit) → (began : Began) (folder : Folder) (told script : List ℕ) (start : S) → Begins folder began
+        → Carried began folder told script store.old line.old (S.disk site.old) (S.told site.old) (Steady S.certain S.clock S.left_since start site.old)
+        → Stops folder script told (S.told site.new) limit (LeavesOnly S.clock S.left_since start site.new) }
+    ensures cuts { S.shows → (began : Began) (folder : Folder) (told script : List ℕ) (start : S)
+        → Carried began folder told script store.old line.old (S.disk site.old) (S.told site.old) (Steady S.certain S.clock S.left_since start site.old)
+        → LeavesOnly S.clock S.left_since start site.new (CutOf began (orders script) told) }
+    ensures corrupt { S.shows → (name : Name) (place : ℕ) → result ≡ Err (Stop.Corrupt name place) → ⊥ }
+    ensures disk { IsErrOf result Stop.Disk → Rose (S.disk_faults site.old) (S.disk_faults site.new) }
+    ensures tell { IsErrOf result Stop.Tell → Rose (S.tell_faults site.old) (S.tell_faults site.new) }
+    ensures causes { IfErr result IsInner }
+    ensures later { (S.disk_faults site.old ≤ S.disk_faults site.new) × (S.tell_faults site.old ≤ S.tell_faults site.new) }
+{
+    stores_stand();
+    batches_make_the_map();
+    older_logs_are_synced();
+    synced_stores_are_left();
+    end_script(store, line, alloc, site)?;
+    store.sync(site)?;
+    Ok(())
 }
 
 // Reads the script to its end, and obeys it line by line.
@@ -116,22 +196,35 @@ pub(crate) fn serve<R: Source, S: Site>(
     buffer: &mut [u8],
     script: &mut R,
     site: &mut S,
-) -> Result<(), Status>
+) -> Result<(), Stop>
     requires some { 0 < length buffer.old }
     requires small { length buffer.old ≤ 2 ^ 20 }
-    requires map { store.old.map.entries ≡ [] }
-    requires next { store.old.next ≡ 1 }
-    requires there { S.shows → Logs store.old [] (S.disk site.old) }
-    ensures ok { S.shows → R.shows → OnOk result (Finished (R.left script.old) (S.told site.old) store.new (S.disk site.new) (S.told site.new)) }
-    ensures front { S.shows → R.shows → OnErr result (HasBegun (R.left script.old) (S.told site.old) (S.told site.new)) }
+    requires usable { store.old.broken ≡ false }
+    requires certain { S.shows → S.certain site.old }
+    requires there { S.shows → (began : Began) × ((folder : Folder) × Starts began folder store.old (S.disk site.old)) }
+    ensures ok { S.shows → R.shows → OnOk result ((began : Began) (folder : Folder) → Begins folder began → Starts began folder store.old (S.disk site.old)
+        → HasRun folder (folder_of (S.disk site.new)) (R.left script.old) (S.told site.old) (S.told site.new)) }
+    ensures kept { S.shows → R.shows → OnOk result ((began : Began) (folder : Folder) → Begins folder began → Starts began folder store.old (S.disk site.old)
+        → IsKept (S.certain site.new) (S.may_be site.new) (S.disk site.new) (S.told site.new) folder (R.left script.old)) }
+    ensures front { S.shows → R.shows → IfErr result (λ e. IsSilent e → (began : Began) (folder : Folder) → Begins folder began → Starts began folder store.old (S.disk site.old)
+        → HasBegun folder (R.left script.old) (S.told site.old) (S.told site.new)) }
+    ensures taken { S.shows → R.shows → IfErr result (λ e. IsReading e → (began : Began) (folder : Folder) → Begins folder began → Starts began folder store.old (S.disk site.old)
+        → (taken : List ℕ) × (taken ++ R.left script.new ≡ R.left script.old) × HasTaken folder taken (S.told site.old) (S.told site.new)) }
+    ensures full { S.shows → R.shows → (limit : ℕ) → result ≡ Err (Stop.Full limit) → (began : Began) (folder : Folder) → Begins folder began → Starts began folder store.old (S.disk site.old)
+        → Stops folder (R.left script.old) (S.told site.old) (S.told site.new) limit (LeavesOnly S.clock S.left_since site.old site.new) }
+    ensures cuts { S.shows → R.shows → (began : Began) (folder : Folder) → Starts began folder store.old (S.disk site.old)
+        → LeavesOnly S.clock S.left_since site.old site.new (CutOf began (orders (R.left script.old)) (S.told site.old)) }
+    ensures corrupt { S.shows → (name : Name) (place : ℕ) → result ≡ Err (Stop.Corrupt name place) → ⊥ }
     ensures ended { R.shows → OnOk result (R.left script.new ≡ []) }
-    ensures read { IsErrOf result Status.ReadFault → Rose (R.faults script.old) (R.faults script.new) }
-    ensures long { IsErrOf result Status.Long → TookOver (2 ^ 40) (R.taken script.old) (R.taken script.new) }
+    ensures read { IsErrOf result Stop.Read → Rose (R.faults script.old) (R.faults script.new) }
+    ensures long { IsErrOf result Stop.Long → TookOver (2 ^ 40) (R.taken script.old) (R.taken script.new) }
     ensures bound { R.taken script.new ≤ R.taken script.old + 2 ^ 40 + length buffer.old }
-    ensures disk { IsErrOf result Status.DiskFault → Rose (S.disk_faults site.old) (S.disk_faults site.new) }
-    ensures tell { IsErrOf result Status.TellFault → Rose (S.tell_faults site.old) (S.tell_faults site.new) }
-    ensures causes { IfErr result IsEnd }
+    ensures disk { IsErrOf result Stop.Disk → Rose (S.disk_faults site.old) (S.disk_faults site.new) }
+    ensures tell { IsErrOf result Stop.Tell → Rose (S.tell_faults site.old) (S.tell_faults site.new) }
+    ensures later { S.tell_faults site.old ≤ S.tell_faults site.new }
 {
+    cuts_stand();
+    batches_make_the_map();
     let mut line = LineInHand::new(alloc);
     let mut taken: u64 = 0;
     'reads: while taken <= LIMIT {
@@ -142,5 +235,5 @@ pub(crate) fn serve<R: Source, S: Site>(
         feed(store, &mut line, alloc, &buffer[..count], site)?;
         taken += count as u64;
     }
-    Err(Status::Long)
+    Err(Stop::Long)
 }

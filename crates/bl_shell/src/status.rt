@@ -1,12 +1,7 @@
 //! How a run ends.
 
 ghost use Rattle.std.specs.Prelude.{◌≡◌};
-ghost use Rattle.bl_shell.specs.Causes.{status_of, number_of};
-
-use bl_code::CodeErr;
-use bl_log::LogErr;
-use bl_site::{SiteErr, SourceErr};
-use std::alloc::{AllocError, AllocFailed};
+ghost use Rattle.bl_shell.specs.Causes.{number_of};
 
 /// How a run ends.
 #[derive(Clone, Copy, Debug, Drop, PartialEq, Eq)]
@@ -23,8 +18,10 @@ pub enum Status {
     DiskFault,
     /// Memory ran out.
     OutOfMemory,
-    /// The folder is not one to run on; a line that says why was told.
+    /// The folder is damaged, or is not one to run on; a line that says where was told.
     Corrupt,
+    /// A batch would pass the greatest sequence, or a log the greatest number of a file; a line that says which was told.
+    Full,
     /// The script has more than 2^40 bytes.
     Long,
 }
@@ -42,69 +39,8 @@ impl Status {
             Status::DiskFault => 5,
             Status::OutOfMemory => 6,
             Status::Corrupt => 7,
+            Status::Full => 8,
             Status::Long => 10,
         }
-    }
-}
-
-impl From<SiteErr> for Status {
-    ghost from_gives = { λ e s. s ≡ status_of e };
-
-    fn from(error: SiteErr) -> Status {
-        match error {
-            SiteErr::DiskFailed => Status::DiskFault,
-            SiteErr::TellFailed => Status::TellFault,
-            SiteErr::OutOfMemory => Status::OutOfMemory,
-        }
-    }
-}
-
-impl From<SourceErr> for Status {
-    ghost use Rattle.bl_shell.specs.declared.status.Status.TheVariants.{ReadFault};
-
-    ghost from_gives = { λ _ s. s ≡ ReadFault };
-
-    fn from(_: SourceErr) -> Status {
-        Status::ReadFault
-    }
-}
-
-impl From<CodeErr> for Status {
-    ghost use Rattle.bl_shell.specs.declared.status.Status.TheVariants.{OutOfMemory};
-
-    ghost from_gives = { λ _ s. s ≡ OutOfMemory };
-
-    fn from(_: CodeErr) -> Status {
-        Status::OutOfMemory
-    }
-}
-
-impl From<LogErr> for Status {
-    ghost use Rattle.bl_shell.specs.declared.status.Status.TheVariants.{OutOfMemory};
-
-    ghost from_gives = { λ _ s. s ≡ OutOfMemory };
-
-    fn from(_: LogErr) -> Status {
-        Status::OutOfMemory
-    }
-}
-
-impl From<AllocError> for Status {
-    ghost use Rattle.bl_shell.specs.declared.status.Status.TheVariants.{OutOfMemory};
-
-    ghost from_gives = { λ _ s. s ≡ OutOfMemory };
-
-    fn from(_: AllocError) -> Status {
-        Status::OutOfMemory
-    }
-}
-
-impl<T: Drop> From<AllocFailed<T>> for Status {
-    ghost use Rattle.bl_shell.specs.declared.status.Status.TheVariants.{OutOfMemory};
-
-    ghost from_gives = { λ _ s. s ≡ OutOfMemory };
-
-    fn from(_: AllocFailed<T>) -> Status {
-        Status::OutOfMemory
     }
 }

@@ -1,5 +1,7 @@
-use Rattle.std.proofs.Common.{◌≡◌, ℕ, ◌+◌, ◌-◌, ◌≤◌, ◌^◌, List, ◌++◌, length, min}
-use Rattle.bl_shell.specs.Carried.{Carried}
+use Rattle.std.proofs.Common.{◌≡◌, ℕ, ◌+◌, ◌-◌, ◌≤◌, ◌^◌, false, List, ◌++◌, length, min}
+use Rattle.bl_site.specs.Disk.{Folder}
+use Rattle.bl_shell.specs.Machine.{Began}
+use Rattle.bl_shell.specs.Carried.{Carried, Starts, Steady}
 use Rattle.bl_shell.proofs.serve.serve.Given as goal
 
 abbrev pub invariant-reads : goal.invariant-reads
@@ -8,15 +10,16 @@ invariant-reads g l =
     let source = g.R.Source in
     record {
       bound : l.taken ≤ 2 ^ 40 + length l.fn.buffer;
-      next : l.store.next ≤ 1 + l.taken;
+      usable : l.store.broken ≡ false;
       took : min (source.taken l.fn.script + l.taken) (2 ^ 64 - 1) ≤ source.taken l.script;
       at_most : source.taken l.script ≤ source.taken l.fn.script + l.taken;
       faults : source.faults l.fn.script ≤ source.faults l.script;
       disk : site.disk_faults l.fn.site ≤ site.disk_faults l.site;
       tell : site.tell_faults l.fn.site ≤ site.tell_faults l.site;
       -- some bytes of the script were taken, and all is as the machine has it after them
-      eaten : site.shows → (front : List ℕ) × Carried (site.told l.fn.site) front l.store l.line (site.disk l.site) (site.told l.site)
-          × (source.shows → front ++ source.left l.script ≡ source.left l.fn.script);
+      eaten : site.shows → (front : List ℕ) × (((began : Began) (folder : Folder) → Starts began folder l.fn.store (site.disk l.fn.site)
+          → Carried began folder (site.told l.fn.site) front l.store l.line (site.disk l.site) (site.told l.site) (Steady site.certain site.clock site.left_since l.fn.site l.site))
+          × (source.shows → front ++ source.left l.script ≡ source.left l.fn.script));
     }
 
 abbrev pub decreases-reads : goal.decreases-reads

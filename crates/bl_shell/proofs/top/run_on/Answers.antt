@@ -1,27 +1,118 @@
-use Rattle.std.proofs.Common.{◌≡◌, inl, inr, ap, sym, ◌∙◌, Err}
+use Rattle.std.proofs.Common.{◌≡◌, ℕ, List, [], ◌∙◌, ap, sym, subst, refl, inl, inr, append-nil, arith, Err}
 use Rattle.std.proofs.lemmas.Result.{err_from_is_err_and}
-use Rattle.bl_shell.proofs.StartLemmas.{nothing_begun, none_there}
-use Rattle.bl_shell.proofs.RunLemmas.{begun_front, not_corrupt}
+use Rattle.bl_site.specs.Disk.{folder_of}
+use Rattle.bl_site.proofs.Moments.{widened}
+use Rattle.bl_store.specs.declared.error.StoreErr.TheVariants as store
+use Rattle.bl_store.specs.Causes.{IsRefusal}
+use Rattle.bl_shell.specs.Causes.{IsOpening, stop_of_store}
+use Rattle.bl_shell.specs.Telling.{HasRun, HasTaken, HasBegun}
+use Rattle.bl_shell.proofs.CrashLemmas.{opened_then, opened_stops, unopened}
+use Rattle.bl_shell.proofs.OnOk.{on_ok, if_err}
+use Rattle.bl_shell.proofs.TopLemmas.{began_of, begins_open, starts_open, stands_open, opening_stops, stop_full, stop_corrupt}
 use Rattle.bl_shell.proofs.top.run_on.Goals as goal
 
-pub returns-in_err-open-clause-front : goal.returns-in_err-open-clause-front
-returns-in_err-open-clause-front g c =
-    let p = err_from_is_err_and c.from_residual.result c.from_residual.ensures.1 in
-    rw p.1 (λ shown known other.
-    let same : p.0 ≡ c.in_err-open.field-0.0 = cc p.2 in
-    elim (c.in_err-open.ensures.other shown (λ e. other (same ∙ e))) [
-      | inl quiet ↦ inl (nothing_begun _ _ _ quiet)
-      | inr told ↦ inr (same ∙ told.0, told.1)
-    ])
+pub returns-in_err-store-clause-full : goal.returns-in_err-store-clause-full
+returns-in_err-store-clause-full g c = λ shown known limit is.
+    let p = err_from_is_err_and c.from_residual-in_err-store.result c.from_residual-in_err-store.ensures.1 in
+    let e : c.in_err-store.field-0.0 ≡ store.Full limit = stop_full c.in_err-store.field-0.0 limit (cc (is, p.1, p.2)) in
+    let f = c.in_err-store.ensures.full shown limit (ap Err e) in
+    record {
+      replies = [];
+      full = inl (f.1, f.2, refl, f.0);
+      told_is = c.in_err-store.ensures.told shown ∙ sym (append-nil (g.S.Site.told c.args.site.now));
+      cuts = widened g.S.Site.clock g.S.Site.left_since c.args.site.now c.open_site.new.site _ _ (λ cut b. inl b) (c.open_site.ensures.before shown);
+    }
+
+pub returns-in_err-store-clause-corrupt : goal.returns-in_err-store-clause-corrupt
+returns-in_err-store-clause-corrupt g c = λ shown name place is.
+    let p = err_from_is_err_and c.from_residual-in_err-store.result c.from_residual-in_err-store.ensures.1 in
+    let e : c.in_err-store.field-0.0 ≡ store.Corrupt name place = stop_corrupt c.in_err-store.field-0.0 name place (cc (is, p.1, p.2)) in
+    (c.in_err-store.ensures.corrupt shown name place (ap Err e), c.in_err-store.ensures.told shown, c.in_err-store.ensures.same shown (subst IsRefusal (sym e) tt))
+
+pub returns-in_err-store-clause-damaged : goal.returns-in_err-store-clause-damaged
+returns-in_err-store-clause-damaged g c =
+    let p = err_from_is_err_and c.from_residual-in_err-store.result c.from_residual-in_err-store.ensures.1 in
+    rw p.1 (λ shown name place damaged.
+    let same : p.0 ≡ stop_of_store c.in_err-store.field-0.0 = cc p.2 in
+    let stands = λ (number : ℕ) (is : c.in_err-store.field-0.0 ≡ store.Full number).
+    let f = c.in_err-store.ensures.full shown number (ap Err is) in
+    c.damaged_do_not_stand.ensures (folder_of (g.S.Site.disk c.args.site.now)) name place f.2.0 f.2.1.0 damaged f.2.1.1 in
+    (refl, subst IsOpening (sym same) (opening_stops c.in_err-store.field-0.0 c.in_err-store.ensures.causes stands)))
+
+pub serve-requires-clause-there : goal.serve-requires-clause-there
+serve-requires-clause-there g c = λ shown.
+    let o = c.in_ok-store.ensures.opened shown in
+    let folder = folder_of (g.S.Site.disk c.args.site.now) in
+    (began_of folder c.in_ok-store.store (g.S.Site.disk c.open_site.new.site) o, (folder, starts_open folder c.in_ok-store.store (g.S.Site.disk c.open_site.new.site) o c.in_ok-store.ensures.usable))
+
+pub returns-clause-done : goal.returns-clause-done
+returns-clause-done g c = λ shown known.
+    let o = c.in_ok-store.ensures.opened shown in
+    let folder = folder_of (g.S.Site.disk c.args.site.now) in
+    let disk = g.S.Site.disk c.open_site.new.site in
+    let P : List ℕ → Type 0 = λ t. HasRun folder (folder_of (g.S.Site.disk c.serve.new.site)) (g.R.Source.left c.args.script.now) t (g.S.Site.told c.serve.new.site) in
+    on_ok c.serve.result _ _ (λ ok. subst P (c.in_ok-store.ensures.told shown)
+    (ok (began_of folder c.in_ok-store.store disk o) folder (begins_open folder c.in_ok-store.store disk o c.batches_make_the_map.ensures) (starts_open folder c.in_ok-store.store disk o c.in_ok-store.ensures.usable)))
+    (c.serve.ensures.ok shown known)
+
+pub returns-clause-taken : goal.returns-clause-taken
+returns-clause-taken g c = λ shown known.
+    let o = c.in_ok-store.ensures.opened shown in
+    let folder = folder_of (g.S.Site.disk c.args.site.now) in
+    let disk = g.S.Site.disk c.open_site.new.site in
+    if_err c.serve.result _ _ (λ e taken reading.
+    let t = taken reading (began_of folder c.in_ok-store.store disk o) folder (begins_open folder c.in_ok-store.store disk o c.batches_make_the_map.ensures) (starts_open folder c.in_ok-store.store disk o c.in_ok-store.ensures.usable) in
+    let P : List ℕ → Type 0 = λ told. HasTaken folder t.0 told (g.S.Site.told c.serve.new.site) in
+    (t.0, t.1, subst P (c.in_ok-store.ensures.told shown) t.2))
+    (c.serve.ensures.taken shown known)
 
 pub returns-clause-front : goal.returns-clause-front
-returns-clause-front g c = λ shown known. begun_front c.serve_new.result _ _ _ _ _ (c.in_ok-open.ensures.told shown) (c.serve_new.ensures.front shown known)
+returns-clause-front g c = λ shown known.
+    let o = c.in_ok-store.ensures.opened shown in
+    let folder = folder_of (g.S.Site.disk c.args.site.now) in
+    let disk = g.S.Site.disk c.open_site.new.site in
+    let P : List ℕ → Type 0 = λ told. HasBegun folder (g.R.Source.left c.args.script.now) told (g.S.Site.told c.serve.new.site) in
+    if_err c.serve.result _ _ (λ e front silent. inr (subst P (c.in_ok-store.ensures.told shown)
+    (front silent (began_of folder c.in_ok-store.store disk o) folder (begins_open folder c.in_ok-store.store disk o c.batches_make_the_map.ensures) (starts_open folder c.in_ok-store.store disk o c.in_ok-store.ensures.usable))))
+    (c.serve.ensures.front shown known)
 
-pub returns-clause-corrupt : goal.returns-clause-corrupt
-returns-clause-corrupt g c = λ shown is. absurd (not_corrupt c.serve_new.result c.serve_new.ensures.causes is)
+pub returns-clause-full : goal.returns-clause-full
+returns-clause-full g c = λ shown known limit is.
+    let o = c.in_ok-store.ensures.opened shown in
+    let folder = folder_of (g.S.Site.disk c.args.site.now) in
+    let disk = g.S.Site.disk c.open_site.new.site in
+    opened_stops g.S.Site.clock g.S.Site.left_since g.S.Site.told g.S.Site.may_be c.args.site.now c.open_site.new.site c.serve.new.site folder (g.R.Source.left c.args.script.now) limit (c.open_site.ensures.before shown)
+    (c.serve.ensures.full shown known limit is (began_of folder c.in_ok-store.store disk o) folder (begins_open folder c.in_ok-store.store disk o c.batches_make_the_map.ensures) (starts_open folder c.in_ok-store.store disk o c.in_ok-store.ensures.usable))
+    (c.in_ok-store.ensures.told shown)
 
-pub returns-clause-same : goal.returns-clause-same
-returns-clause-same g c = λ shown is. absurd (not_corrupt c.serve_new.result c.serve_new.ensures.causes is)
+pub returns-clause-kept : goal.returns-clause-kept
+returns-clause-kept g c = λ shown known.
+    let o = c.in_ok-store.ensures.opened shown in
+    let folder = folder_of (g.S.Site.disk c.args.site.now) in
+    let disk = g.S.Site.disk c.open_site.new.site in
+    on_ok c.serve.result _ _ (λ ok. ok (began_of folder c.in_ok-store.store disk o) folder (begins_open folder c.in_ok-store.store disk o c.batches_make_the_map.ensures)
+    (starts_open folder c.in_ok-store.store disk o c.in_ok-store.ensures.usable)) (c.serve.ensures.kept shown known)
 
-pub returns-clause-named : goal.returns-clause-named
-returns-clause-named g c = λ shown name some. absurd (none_there (g.S.Site.disk c.args.site.now) name (c.in_ok-open.ensures.fresh shown) some)
+pub returns-clause-cuts : goal.returns-clause-cuts
+returns-clause-cuts g c = λ shown known.
+    let o = c.in_ok-store.ensures.opened shown in
+    let folder = folder_of (g.S.Site.disk c.args.site.now) in
+    let disk = g.S.Site.disk c.open_site.new.site in
+    let began = began_of folder c.in_ok-store.store disk o in
+    opened_then g.S.Site.clock g.S.Site.left_since g.S.Site.told g.S.Site.may_be c.args.site.now c.open_site.new.site c.serve.new.site folder _ began (begins_open folder c.in_ok-store.store disk o c.batches_make_the_map.ensures) (c.open_site.ensures.before shown)
+    (c.serve.ensures.cuts shown known began folder (starts_open folder c.in_ok-store.store disk o c.in_ok-store.ensures.usable)) (c.in_ok-store.ensures.told shown)
+
+pub returns-in_err-store-clause-cuts : goal.returns-in_err-store-clause-cuts
+returns-in_err-store-clause-cuts g c = λ shown known. widened g.S.Site.clock g.S.Site.left_since c.args.site.now c.open_site.new.site _ _ (λ cut b. inl b) (c.open_site.ensures.before shown)
+
+pub returns-in_err-buffer-clause-cuts : goal.returns-in_err-buffer-clause-cuts
+returns-in_err-buffer-clause-cuts g c = λ shown known. unopened g.S.Site.clock g.S.Site.left_since g.S.Site.told g.S.Site.may_be c.args.site.now _ _ (λ cut. g.met.S.Site.only_now shown c.args.site.now cut)
+
+pub returns-clause-damaged : goal.returns-clause-damaged
+returns-clause-damaged g c = λ shown name place damaged.
+    let o = c.in_ok-store.ensures.opened shown in
+    let folder = folder_of (g.S.Site.disk c.args.site.now) in
+    absurd (c.damaged_do_not_stand.ensures folder name place o.batches c.in_ok-store.store.last damaged (stands_open folder c.in_ok-store.store (g.S.Site.disk c.open_site.new.site) o))
+
+pub returns-clause-later : goal.returns-clause-later
+returns-clause-later g c = omega (arith, c.serve.ensures.later, c.in_ok-store.ensures.tell_faults)

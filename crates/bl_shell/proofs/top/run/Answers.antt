@@ -1,0 +1,71 @@
+use Rattle.std.proofs.Common.{[], inr, ap, ◌∙◌, Err}
+use Rattle.bl_site.specs.Disk.{folder_of}
+use Rattle.bl_site.proofs.Moments.{widened}
+use Rattle.bl_shell.proofs.CrashLemmas.{ended, has_stopped, no_error_yet, reads_since, stop_is_full, untouched}
+use Rattle.bl_shell.proofs.TopLemmas.{ended_front, stop_is_corrupt, corrupt_told, refused}
+use Rattle.bl_shell.proofs.top.run.Goals as goal
+
+pub returns-in-Ok-clause-done : goal.returns-in-Ok-clause-done
+returns-in-Ok-clause-done g c = λ shown known same. c.in-Ok.ensures.done shown known
+
+pub returns-in-Ok-clause-damaged : goal.returns-in-Ok-clause-damaged
+returns-in-Ok-clause-damaged g c = λ shown name place damaged. absurd (cc (c.in-Ok.ensures.damaged shown name place damaged).0)
+
+pub returns-in-Err-clause-corrupt : goal.returns-in-Err-clause-corrupt
+returns-in-Err-clause-corrupt g c = λ shown is.
+    let s = stop_is_corrupt c.in-Err.stop c.end.result c.end.ensures.ends is in
+    let d = c.in-Err.ensures.corrupt shown s.0 s.1.0 (ap Err s.1.1) in
+    (s.0, (s.1.0, d.0, corrupt_told c.end.result s.0 s.1.0 _ _ _ is (c.end.ensures.corrupt shown s.0 s.1.0 s.1.1) d.1))
+
+pub returns-in-Err-clause-same : goal.returns-in-Err-clause-same
+returns-in-Err-clause-same g c = λ shown is.
+    let s = stop_is_corrupt c.in-Err.stop c.end.result c.end.ensures.ends is in
+    c.end.ensures.stays shown ∙ (c.in-Err.ensures.corrupt shown s.0 s.1.0 (ap Err s.1.1)).2
+
+pub returns-in-Err-clause-front : goal.returns-in-Err-clause-front
+returns-in-Err-clause-front g c = λ shown known short.
+    ended_front (folder_of (g.S.Site.disk c.args.site.now)) (g.R.Source.left c.args.script.now) (g.S.Site.told c.args.site.now) (g.S.Site.told c.run_on.new.site) (g.S.Site.told c.end.new.site) c.end.result c.in-Err.stop
+    (λ silent. ap g.S.Site.told (c.end.ensures.silent silent).1) (c.in-Err.ensures.front shown known)
+    (λ name place is. let d = c.in-Err.ensures.corrupt shown name place (ap Err is) in (d.0, d.1)) (c.end.ensures.corrupt shown)
+    (λ limit is. let f = c.in-Err.ensures.full shown known limit (ap Err is) in (f.replies, f.full, f.told_is)) (c.end.ensures.full shown) short
+
+pub returns-in-Err-clause-damaged : goal.returns-in-Err-clause-damaged
+returns-in-Err-clause-damaged g c = λ shown name place damaged.
+    inr (refused c.in-Err.stop c.end.result (c.in-Err.ensures.damaged shown name place damaged).1 c.end.ensures.ends)
+
+pub returns-then-not-is_empty-clause-cuts : goal.returns-then-not-is_empty-clause-cuts
+returns-then-not-is_empty-clause-cuts g c = λ shown known. untouched g.S.Site.clock g.S.Site.left_since g.S.Site.told g.S.Site.may_be c.args.site.now _ _ (λ cut. g.met.S.Site.only_now shown c.args.site.now cut)
+
+pub returns-in-Ok-clause-cuts : goal.returns-in-Ok-clause-cuts
+returns-in-Ok-clause-cuts g c = λ shown known. widened g.S.Site.clock g.S.Site.left_since c.args.site.now c.run_on.new.site _ _ (λ cut k. no_error_yet _ _ _ _ cut k) (c.in-Ok.ensures.cuts shown known)
+
+pub returns-in-Ok-clause-kept : goal.returns-in-Ok-clause-kept
+returns-in-Ok-clause-kept g c = λ shown known same. c.in-Ok.ensures.kept shown known
+
+pub returns-in-Err-clause-cuts : goal.returns-in-Err-clause-cuts
+returns-in-Err-clause-cuts g c = λ shown known.
+    let mid = c.run_on.new.site in
+    ended g.S.Site.clock g.S.Site.left_since g.S.Site.told g.S.Site.may_be c.args.site.now mid c.end.new.site _ _ (c.in-Err.ensures.cuts shown known) (c.end.ensures.cuts shown) (λ t cut. g.met.S.Site.counts_now shown mid t cut)
+
+pub returns-in-Err-clause-full : goal.returns-in-Err-clause-full
+returns-in-Err-clause-full g c = λ shown known is.
+    let mid = c.run_on.new.site in
+    let s = stop_is_full c.in-Err.stop c.end.result c.end.ensures.ends is in
+    let f = c.in-Err.ensures.full shown known s.0 (ap Err s.1) in
+    has_stopped c.end.result _ _ _ _ _ _ s.0 _ _ is f (c.end.ensures.full shown s.0 s.1)
+    (ended g.S.Site.clock g.S.Site.left_since g.S.Site.told g.S.Site.may_be c.args.site.now mid c.end.new.site _ _ f.cuts (c.end.ensures.cuts shown) (λ t cut. g.met.S.Site.counts_now shown mid t cut))
+
+pub returns-then-not-is_empty-clause-reads : goal.returns-then-not-is_empty-clause-reads
+returns-then-not-is_empty-clause-reads g c = λ shown known.
+    let site = c.args.site.now in
+    reads_since g.S.Site.clock g.S.Site.left_since g.S.Site.told g.S.Site.may_be g.S.Site.disk c.args.site.now site _ (untouched g.S.Site.clock g.S.Site.left_since g.S.Site.told g.S.Site.may_be c.args.site.now (folder_of (g.S.Site.disk c.args.site.now)) [] (λ cut. g.met.S.Site.only_now shown c.args.site.now cut)) (g.met.S.Site.reads shown site) (λ name file. g.met.S.Site.remnant shown site name file) (λ t cut. g.met.S.Site.counts_now shown site t cut)
+
+pub returns-in-Ok-clause-reads : goal.returns-in-Ok-clause-reads
+returns-in-Ok-clause-reads g c = λ shown known.
+    let site = c.run_on.new.site in
+    reads_since g.S.Site.clock g.S.Site.left_since g.S.Site.told g.S.Site.may_be g.S.Site.disk c.args.site.now site _ (c.in-Ok.ensures.cuts shown known) (g.met.S.Site.reads shown site) (λ name file. g.met.S.Site.remnant shown site name file) (λ t cut. g.met.S.Site.counts_now shown site t cut)
+
+pub returns-in-Err-clause-reads : goal.returns-in-Err-clause-reads
+returns-in-Err-clause-reads g c = λ shown known.
+    let site = c.end.new.site in
+    reads_since g.S.Site.clock g.S.Site.left_since g.S.Site.told g.S.Site.may_be g.S.Site.disk c.args.site.now site _ (returns-in-Err-clause-cuts g c shown known) (g.met.S.Site.reads shown site) (λ name file. g.met.S.Site.remnant shown site name file) (λ t cut. g.met.S.Site.counts_now shown site t cut)

@@ -1,0 +1,102 @@
+-- What a power cut at some moment of a run leaves.
+use Rattle.std.specs.Prelude.{◌≡◌, ◌⊎◌, ℕ, List, [], ◌++◌}
+use Rattle.std.proofs.Common.{inl, inr}
+use Rattle.bl_site.specs.Disk.{Name, Folder, Disk, Cut, MayLeave, folder_of, written_of}
+use Rattle.bl_names.specs.Names.{IsNumber}
+use Rattle.bl_script.specs.declared.command.Parsed.{Parsed}
+use Rattle.bl_wal.specs.LogFile.{log_name}
+use Rattle.bl_store.specs.Cuts.{BeforeBarrier, AreWhole}
+use Rattle.bl_store.specs.Folders.{LogStands}
+use Rattle.bl_store.specs.Stored.{IsSynced}
+use Rattle.bl_shell.specs.Machine.{State, Line, IsHistory, orders, orders_of, Began}
+use Rattle.bl_shell.specs.Synced.{CutOf}
+use Rattle.bl_shell.specs.Telling.{Begins, IsFull, PassesIn, corrupt_line, full_line}
+
+-- a front of a line that ends a run
+pub record IsErrorFront (bytes : List ℕ) : Type 0 where
+  pub line : List ℕ
+  pub is_error : ((name : Name) × ((place : ℕ) × (line ≡ corrupt_line name place))) ⊎ ((limit : ℕ) × (line ≡ full_line limit))
+  pub rest : List ℕ
+  pub whole : bytes ++ rest ≡ line
+
+-- the same cut, had only these bytes been told
+abbrev pub told_only : List ℕ → Cut → Cut
+told_only told c = record c { told = told }
+
+-- A cut before the barrier of the run's opening: it leaves what a cut before the run might have left, perhaps with the next log besides, which is empty; and nothing was told but a front of an error line.
+pub record CutBefore (may_be : Disk → Type 0) (folder : Folder) (told : List ℕ) (c : Cut) : Type 0 where
+  pub error : List ℕ
+  pub is_error : IsErrorFront error
+  pub told_is : c.told ≡ told ++ error
+  pub before : BeforeBarrier folder may_be told (told_only told c)
+
+-- A cut behind it, of a run that was given these orders: unless a torn fragment's checksum matches by chance, the folder stands for the map after a prefix of the writes that holds each one acknowledged as synced. Replies alone are counted, not the front of an error line behind them.
+pub record CutStands (folder : Folder) (given : List Parsed) (told : List ℕ) (c : Cut) : Type 0 where
+  pub began : Began
+  pub begins : Begins folder began
+  pub replied : List ℕ
+  pub error : List ℕ
+  pub is_error : IsErrorFront error
+  pub told_is : c.told ≡ replied ++ error
+  pub stands : CutOf began given told (told_only replied c)
+
+-- a cut at any moment of a run
+abbrev pub CutOfRun : (Disk → Type 0) → Folder → List Parsed → List ℕ → Cut → Type 0
+CutOfRun may_be folder given told c = CutBefore may_be folder told c ⊎ CutStands folder given told c
+
+-- the folder as it reads, with what was told and written so far, as a cut
+abbrev pub as_it_reads : Disk → List ℕ → Cut
+as_it_reads disk told = record { folder = folder_of disk; told = told; written = written_of disk }
+
+-- the orders before the one that would pass a limit; an opening has none
+abbrev pub given_before : (folder : Folder) (script replies : List ℕ) (limit : ℕ) → IsFull folder script replies limit → List Parsed
+given_before folder script replies limit (inl opening) = []
+given_before folder script replies limit (inr passes) = orders_of passes.history
+
+-- A limit ended a run: the replies to the orders before the one in hand were told, and a line that says which limit. That order is not accepted: no cut holds what it writes.
+pub record HasStopped (may_be : Disk → Type 0) (folder : Folder) (script told told_after : List ℕ) (since : (Cut → Type 0) → Type 0) : Type 0 where
+  pub replies : List ℕ
+  pub limit : ℕ
+  pub full : IsFull folder script replies limit
+  pub told_is : told_after ≡ (told ++ replies) ++ full_line limit
+  pub cuts : since (CutOfRun may_be folder (given_before folder script replies limit full) told)
+
+-- the folder left stands for the map after the whole script
+pub record StandsForLast (folder : Folder) (script : List ℕ) (left : Folder) : Type 0 where
+  pub began : Began
+  pub begins : Begins folder began
+  pub history : List Line
+  pub last : State
+  pub is_history : IsHistory began.now (orders script) history last
+  pub stands : LogStands left last.now
+
+-- A run is done: no name call is in doubt, no log has an unsynced byte, and every later cut leaves the last map, whatever checksum may match by chance.
+pub record IsKept (certain : Type 0) (may_be : Disk → Type 0) (disk : Disk) (told : List ℕ) (folder : Folder) (script : List ℕ) : Type 0 where
+  pub certain_now : certain
+  pub synced : (number : ℕ) → IsNumber number → IsSynced (disk (log_name number))
+  pub whole : AreWhole disk
+  pub stands : (c : Cut) → MayLeave may_be told c → StandsForLast folder script c.folder
+
+-- Inside a run, before a line that ends it is told: a cut before the barrier, or one behind it.
+abbrev pub CutInRun : (Disk → Type 0) → Folder → List Parsed → List ℕ → Cut → Type 0
+CutInRun may_be folder given told c = BeforeBarrier folder may_be told c ⊎ ((began : Began) × Begins folder began × CutOf began given told c)
+
+-- a limit is passed in the line in hand, behind these replies
+pub record Stops (folder : Folder) (script told told_after : List ℕ) (limit : ℕ) (since : (Cut → Type 0) → Type 0) : Type 0 where
+  pub replies : List ℕ
+  pub passes : PassesIn folder script replies limit
+  pub told_is : told_after ≡ told ++ replies
+  pub cuts : since (CutOf passes.began (orders_of passes.history) told)
+
+-- at the run's opening or in a line
+pub record StopsRun (may_be : Disk → Type 0) (folder : Folder) (script told told_after : List ℕ) (limit : ℕ) (since : (Cut → Type 0) → Type 0) : Type 0 where
+  pub replies : List ℕ
+  pub full : IsFull folder script replies limit
+  pub told_is : told_after ≡ told ++ replies
+  pub cuts : since (CutInRun may_be folder (given_before folder script replies limit full) told)
+
+-- a cut while a line that ends a run is told
+pub record TellsError (may_be : Disk → Type 0) (told : List ℕ) (c : Cut) : Type 0 where
+  pub error : List ℕ
+  pub is_error : IsErrorFront error
+  pub leaves : MayLeave may_be (told ++ error) c
