@@ -7,7 +7,9 @@ A case is a JSON object of tests/cases/*.json:
   words       the words that the program is given
   script      its lines: text, or {"pre", "fill", "count"} for a text and a character repeated
   start       what is done to the folder before: {"put": NAME, "hex": BYTES}, {"put": NAME, "frame": BYTES} (one full
-              fragment of a log), {"append": NAME, "hex": BYTES} or {"run": LINES} (an earlier run that ends well)
+              fragment of a log), {"append": NAME, "hex": BYTES}, {"folder": NAME} or {"run": LINES} (an earlier run that
+              ends well)
+  file_limit  how many bytes a file may get; a write past them fails
   told        the lines told
   status      the exit status
   names       all names left; sizes, the sizes of some files left; frames, the records of some logs left, in hexadecimal,
@@ -19,6 +21,8 @@ tests/stages.json has the stages in order, how many cases each one runs, and whi
 
 import json
 import os
+import resource
+import signal
 import struct
 import subprocess
 import sys
@@ -56,8 +60,17 @@ def text_of(lines):
     return "".join(line(item) + "\n" for item in lines).encode()
 
 
-def run(folder, words, script):
-    return subprocess.run([PROGRAM, *words], cwd=folder, input=script, capture_output=True, timeout=SECONDS, check=False)
+def limit_files(size):
+    """Lets a write past so many bytes of a file fail, where by default it would end the program."""
+    signal.signal(signal.SIGXFSZ, signal.SIG_IGN)
+    resource.setrlimit(resource.RLIMIT_FSIZE, (size, size))
+
+
+def run(folder, words, script, file_limit=None):
+    before = None if file_limit is None else lambda: limit_files(file_limit)
+    return subprocess.run(
+        [PROGRAM, *words], cwd=folder, input=script, capture_output=True, timeout=SECONDS, check=False, preexec_fn=before
+    )
 
 
 def prepare(folder, steps):
@@ -66,6 +79,9 @@ def prepare(folder, steps):
             done = run(folder, [], text_of(step["run"]))
             if done.returncode != 0:
                 raise AssertionError(f"the run before ends with {done.returncode}")
+            continue
+        if "folder" in step:
+            os.mkdir(os.path.join(folder, step["folder"]))
             continue
         name = step.get("put") or step["append"]
         data = frame(bytes.fromhex(step["frame"])) if "frame" in step else bytes.fromhex(step["hex"])
@@ -76,6 +92,8 @@ def prepare(folder, steps):
 def contents(folder):
     found = {}
     for name in os.listdir(folder):
+        if not os.path.isfile(os.path.join(folder, name)):
+            continue
         with open(os.path.join(folder, name), "rb") as file:
             found[name] = file.read()
     return found
@@ -85,7 +103,7 @@ def faults(case, folder):
     """What differs from what the case wants."""
     prepare(folder, case.get("start", []))
     before = contents(folder)
-    done = run(folder, case.get("words", []), text_of(case["script"]))
+    done = run(folder, case.get("words", []), text_of(case["script"]), case.get("file_limit"))
     after = contents(folder)
     wanted = text_of(case["told"])
     if done.stdout != wanted:

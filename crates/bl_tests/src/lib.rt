@@ -6,4 +6,6 @@ mod blobs;
 #[cfg(test)]
 mod logs;
 #[cfg(test)]
+mod manifests;
+#[cfg(test)]
 mod scripts;

@@ -76,11 +76,13 @@ fn a_synced_batch_is_in_every_cut(rt: HostRuntime) -> Result<(), Fail> {
     let mut wal = Wal::create(rt.alloc(), &mut site, 2).map_err(failed)?;
     let mut first = Batch::start(rt.alloc());
     first.put(b"a", b"1")?;
-    wal.append(rt.alloc(), &mut site, 1, &first).map_err(failed)?;
+    wal.append(rt.alloc(), &mut site, 1, &first)
+        .map_err(failed)?;
     wal.sync(&mut site).map_err(failed)?;
     let mut second = Batch::start(rt.alloc());
     second.put(b"b", b"2")?;
-    wal.append(rt.alloc(), &mut site, 2, &second).map_err(failed)?;
+    wal.append(rt.alloc(), &mut site, 2, &second)
+        .map_err(failed)?;
     assert!(rt; !wal.failed());
     for (at, keep, fill, last) in [
         (3, 0, None, 1),
