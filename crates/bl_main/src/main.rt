@@ -34,6 +34,8 @@ fn advice(status: Status) -> Option<&'static str> {
 fn main(rt: HostRuntime) -> ExitCode {
     let status = match start(&rt) {
         Ok(status) => status,
+        // A word that is no UTF-8 is a word too.
+        Err(error) if error.kind() == io::ErrorKind::InvalidData => Status::Words,
         Err(_) => Status::OutOfMemory,
     };
     if let Some(text) = advice(status) {

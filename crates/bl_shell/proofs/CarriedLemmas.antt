@@ -21,7 +21,7 @@ use Rattle.bl_shell.proofs.HistoryLemmas.{runs_then, told_more, written_more, re
 use Rattle.bl_shell.proofs.BreakLemmas.{breaks_between, breaks_in, next_fits}
 use Rattle.bl_shell.proofs.LimitLemmas.{lines_fit}
 use Rattle.bl_shell.proofs.LineLemmas.{letters_stay, letters_join, line_ends, whole_ends, no_whole}
-use Rattle.bl_shell.proofs.CutLemmas.{first_stays, cut_between, cut_in_line, cut_refused, cut_of_more, cut_of_given}
+use Rattle.bl_shell.proofs.CutLemmas.{first_stays, whole_stays, cut_between, cut_in_line, cut_refused, cut_of_more, cut_of_given}
 use Rattle.bl_shell.proofs.StayLemmas.{keeps_then, none_numbered, no_operations}
 use Rattle.bl_shell.proofs.SyncedLemmas.{no_syncs, before_sync_more, numbered-length}
 
@@ -60,7 +60,7 @@ starts began folder told store line disk steady s held cuts = record {
 -- what a cut finds there
 pub cut_at_start : CutsStand → BatchesMakeMap → (began : Began) (folder : Folder) (store : Stored) (disk : Disk) (told : List ℕ) (c : Cut) → Starts began folder store disk → IsCut disk told c → CutOf began [] told c
 cut_at_start law make began folder store disk told c s is =
-    cut_between make began told s.made [] store told c (ap (λ m. record { now = m }) s.now_is) (sym (append-nil told)) is.told_is
+    cut_between make began told s.made [] store told c (ap (λ m. record { now = m }) s.now_is) (sym (append-nil told)) is.told_is (whole_stays law store _ _ disk told c (starts_stays began folder store disk s) is)
     (first_stays law store _ _ disk told c (starts_stays began folder store disk s) is)
 
 module _ {D : Type 0} (certain : D → Type 0) (clock : D → ℕ) (left_since : D → ℕ → Cut → Type 0) (make : BatchesMakeMap) (began : Began) (folder : Folder) (told0 script : List ℕ)

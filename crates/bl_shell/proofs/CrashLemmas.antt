@@ -1,5 +1,5 @@
 -- The cuts of a whole run.
-use Rattle.std.proofs.Common.{◌≡◌, inl, inr, ℕ, ◌≤◌, List, [], ◌++◌, take, drop, Option, None, Some, refl, sym, ◌∙◌, ap, subst, append-nil}
+use Rattle.std.proofs.Common.{◌≡◌, inl, inr, arith, ℕ, ◌≤◌, List, [], ◌++◌, take, drop, Option, None, Some, refl, sym, ◌∙◌, ap, subst, append-nil}
 use Rattle.std.specs.Option.{option_map}
 use Rattle.std.proofs.lemmas.List.{take-append-drop}
 use Rattle.bl_site.specs.Disk.{Name, File, Folder, Disk, Cut, IsRemnant, IsLeft, MayLeave}
@@ -13,7 +13,7 @@ use Rattle.bl_shell.specs.declared.stop.Stop.TheVariants as stop
 use Rattle.bl_shell.specs.declared.status.Status.{Status}
 use Rattle.bl_shell.specs.declared.status.Status.TheVariants.{Full}
 use Rattle.bl_shell.specs.Causes.{MayEnd, EndsAs, status_of}
-use Rattle.bl_shell.specs.Cuts.{IsErrorFront, told_only, CutOfRun, CutInRun, HasStopped, Stops, StopsRun, TellsError, as_it_reads, given_before}
+use Rattle.bl_shell.specs.Cuts.{IsErrorFront, told_only, CutOfRun, CutInRun, CutPast, CutStands, FromSomeMoment, HasStopped, Stops, StopsRun, TellsError, as_it_reads, given_before}
 use Rattle.bl_shell.specs.Synced.{CutOf}
 use Rattle.bl_shell.specs.Telling.{Begins, corrupt_line, full_line}
 
@@ -27,7 +27,7 @@ corrupt_error name place count = record { line = corrupt_line name place; is_err
 pub full_error : (limit count : ℕ) → IsErrorFront (take count (full_line limit))
 full_error limit count = record { line = full_line limit; is_error = inr (limit, refl); rest = drop count (full_line limit); whole = take-append-drop count (full_line limit) }
 
-as_read : (o : Option File) → ((file : File) → o ≡ Some file → IsRemnant file file.read) → IsLeft o (option_map (λ (file : File). file.read) o)
+pub as_read : (o : Option File) → ((file : File) → o ≡ Some file → IsRemnant file file.read) → IsLeft o (option_map (λ (file : File). file.read) o)
 as_read None remnant = tt
 as_read (Some file) remnant = remnant file refl
 
@@ -40,13 +40,15 @@ before_calls folder may_be told c leaves = record {
   perhaps = inl refl;
 }
 
+past_with_error : (folder : Folder) (given : List Parsed) (told replied error : List ℕ) (c : Cut) → IsErrorFront error → c.told ≡ replied ++ error → CutPast folder given told (told_only replied c) → CutStands folder given told c
+past_with_error folder given told replied error c is says (began, begins, of) = record { began = began; begins = begins; replied = replied; error = error; is_error = is; told_is = says; stands = of }
+
 -- what is told more is a front of an error line
 with_error : (may_be : Disk → Type 0) (folder : Folder) (given : List Parsed) (told replied error : List ℕ) (c : Cut) → IsErrorFront error → c.told ≡ replied ++ error
     → CutInRun may_be folder given told (told_only replied c) → CutOfRun may_be folder given told c
 with_error may_be folder given told replied error c is says (inl b) =
     inl (record { error = error; is_error = is; told_is = says ∙ ap (λ t. t ++ error) b.told_is; before = record { told_is = refl; found = b.found; was = b.was; perhaps = b.perhaps } })
-with_error may_be folder given told replied error c is says (inr (began, begins, of)) =
-    inr (record { began = began; begins = begins; replied = replied; error = error; is_error = is; told_is = says; stands = of })
+with_error may_be folder given told replied error c is says (inr past) = inr (past_with_error folder given told replied error c is says past)
 
 pub no_error_yet : (may_be : Disk → Type 0) (folder : Folder) (given : List Parsed) (told : List ℕ) (c : Cut) → CutInRun may_be folder given told c → CutOfRun may_be folder given told c
 no_error_yet may_be folder given told c cut = with_error may_be folder given told c.told [] c no_error (sym (append-nil c.told)) cut
@@ -94,6 +96,43 @@ module _ {D : Type 0} (clock : D → ℕ) (left_since : D → ℕ → Cut → Ty
   pub silent : (site : D) → ((c : Cut) → left_since site (clock site) c → MayLeave (may_be site) (told site) c) → LeavesOnly clock left_since site site (TellsError (may_be site) (told site))
   silent site now = started clock left_since site (TellsError (may_be site) (told site))
       (λ c left. let P : List ℕ → Type 0 = λ t. MayLeave (may_be site) t c in record { error = []; is_error = no_error; leaves = subst P (sym (append-nil (told site))) (now c left) })
+
+  -- the opening, from which on every cut is one of the lines behind it
+  pub opened_past : (old mid new : D) (folder : Folder) (given : List Parsed) (began : Began) → Begins folder began → clock old ≤ clock mid → LeavesOnly clock left_since mid new (CutOf began given (told mid)) → told mid ≡ told old
+      → FromSomeMoment clock left_since old new (CutPast folder given (told old))
+  opened_past old mid new folder given began begins later leaves same = record {
+    moment = clock mid;
+    not_before = later;
+    not_after = leaves.later;
+    each = λ c left. (began, begins, (let R : List ℕ → Type 0 = λ t. CutOf began given t c in subst R same (leaves.each c left)));
+  }
+
+  pub past_unended : (old new : D) (folder : Folder) (given : List Parsed) → FromSomeMoment clock left_since old new (CutPast folder given (told old)) → FromSomeMoment clock left_since old new (CutStands folder given (told old))
+  past_unended old new folder given past = record {
+    moment = past.moment;
+    not_before = past.not_before;
+    not_after = past.not_after;
+    each = λ c left. past_with_error folder given (told old) c.told [] c no_error (sym (append-nil c.told)) (past.each c left);
+  }
+
+  -- and a line that ends the run is told
+  pub past_ended : (old mid new : D) (folder : Folder) (given : List Parsed) → FromSomeMoment clock left_since old mid (CutPast folder given (told old))
+      → LeavesOnly clock left_since mid new (TellsError (may_be mid) (told mid)) → ((t : ℕ) (c : Cut) → t ≤ clock mid → MayLeave (may_be mid) (told mid) c → left_since mid t c)
+      → FromSomeMoment clock left_since old new (CutStands folder given (told old))
+  past_ended old mid new folder given past tells counts = record {
+    moment = past.moment;
+    not_before = past.not_before;
+    not_after = omega (arith, past.not_after, tells.later);
+    each = λ c left. elim (tells.before past.moment c past.not_after left) [
+      | inl was ↦ past_with_error folder given (told old) c.told [] c no_error (sym (append-nil c.told)) (past.each c was)
+      | inr t ↦ past_with_error folder given (told old) (told mid) t.error c t.is_error t.leaves.is_cut.told_is
+          (past.each (told_only (told mid) c) (counts past.moment (told_only (told mid) c) past.not_after (record {
+            disk = t.leaves.disk;
+            possible = t.leaves.possible;
+            is_cut = record { image = t.leaves.is_cut.image; told_is = refl; written_is = t.leaves.is_cut.written_is };
+          })))
+    ];
+  }
 
   -- a line of an error is told
   pub line_told : (old new : D) (line : List ℕ) → ((count : ℕ) → IsErrorFront (take count line)) → LeavesOnly clock left_since old new (Tells (may_be old) (told old) line)

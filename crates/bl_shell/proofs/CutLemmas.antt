@@ -9,7 +9,7 @@ use Rattle.bl_entry.specs.Batches.{Batch}
 use Rattle.bl_script.specs.declared.command.Parsed.{Parsed}
 use Rattle.bl_script.specs.declared.command.Parsed.TheVariants.{Nothing}
 use Rattle.bl_wal.specs.Chance.{NoChanceMatch}
-use Rattle.bl_store.specs.Cuts.{LeavesFirst}
+use Rattle.bl_store.specs.Cuts.{LeavesFirst, AreLeftWhole}
 use Rattle.bl_store.specs.Folders.{Stands, LogStands}
 use Rattle.bl_store.specs.Laws.{CutsStand, BatchesMakeMap}
 use Rattle.bl_store.specs.Stored.{Stored, next_batch}
@@ -56,6 +56,9 @@ pub first_stays : CutsStand → (store : Stored) (batches : List Batch) (least :
 first_stays law store batches least disk told c s is =
     leaves_first s.older s.own batches s.synced least told c s.all s.at_least (law store.log s.older s.own s.synced store.last disk told c s.carries.on is)
 
+pub whole_stays : CutsStand → (store : Stored) (batches : List Batch) (least : ℕ) (disk : Disk) (told : List ℕ) (c : Cut) → Stays store batches least disk → IsCut disk told c → AreLeftWhole c
+whole_stays law store batches least disk told c s is = (law store.log s.older s.own s.synced store.last disk told c s.carries.on is).whole
+
 -- what is told of a line, seen from the order's beginning
 pub cut_at : (disk mid : Disk) (bytes reply told told_mid : List ℕ) (c : Cut) → mid ≡ disk → (TellsFront bytes told_mid c.told → TellsFront reply told c.told) → CutTelling mid bytes told_mid c → CutTelling disk reply told c
 cut_at disk mid bytes reply told told_mid c same tells t = record {
@@ -71,17 +74,19 @@ abbrev none_told : (reply told told_now : List ℕ) → told_now ≡ told → Te
 none_told reply told told_now same = record { front = []; rest = reply; whole = refl; told_is = same ∙ sym (append-nil told) }
 
 -- nothing was told yet, and nothing written
-pub cut_quiet : (order : Parsed) (store : Stored) (batches : List Batch) (least : ℕ) (told : List ℕ) (c : Cut) → c.told ≡ told
+pub cut_quiet : (order : Parsed) (store : Stored) (batches : List Batch) (least : ℕ) (told : List ℕ) (c : Cut) → c.told ≡ told → AreLeftWhole c
     → (NoChanceMatch c.folder c.written → StandsFirst c.folder batches least) → CutIn order store batches least told c
-cut_quiet order store batches least told c same first = record {
+cut_quiet order store batches least told c same older first = record {
   tells = none_told (reply_of order store.now) told c.told same;
+  whole = older;
   stands = λ chance. first_of_more c.folder batches (numbered (store.last + 1) (writes_of order)) least (first chance);
   synced = λ chance sync none. absurd (says order store.now sync none);
 }
 
 pub cut_now : CutsStand → (order : Parsed) (store : Stored) (batches : List Batch) (least : ℕ) (disk : Disk) (told : List ℕ) (c : Cut) → Stays store batches least disk → IsCut disk told c
     → CutIn order store batches least told c
-cut_now law order store batches least disk told c s is = cut_quiet order store batches least told c is.told_is (first_stays law store batches least disk told c s is)
+cut_now law order store batches least disk told c s is =
+    cut_quiet order store batches least told c is.told_is (whole_stays law store batches least disk told c s is) (first_stays law store batches least disk told c s is)
 
 -- nothing was told yet, and a batch is on its way to the log
 pub cut_writing : (order : Parsed) (operations : Write) (store : Stored) (batches : List Batch) (least : ℕ) (disk : Disk) (told : List ℕ) (c : Cut) → IsWrite order operations → (s : Stays store batches least disk)
@@ -92,6 +97,7 @@ cut_writing order operations store batches least disk told c w s l =
     sym (append_assoc s.older s.own (b ∷ [])) ∙ ap (λ bs. bs ++ b ∷ []) s.all ∙ ap (λ bs. batches ++ bs) (sym (ap (numbered (store.last + 1)) w.writes ∙ one_numbered (store.last + 1) operations)) in
     record {
       tells = none_told (reply_of order store.now) told c.told l.told_is;
+      whole = l.whole;
       stands = leaves_first s.older (s.own ++ b ∷ []) _ s.synced least told c all s.at_least l;
       synced = λ chance sync none. absurd (says order store.now sync none);
     }
@@ -105,6 +111,7 @@ cut_told law order store next batches least disk told c le s t =
     let first = first_stays law next all (cond (syncs order) (length batches) least) disk c.told c s t.is_cut in
     record {
       tells = t.tells;
+      whole = whole_stays law next all (cond (syncs order) (length batches) least) disk c.told c s t.is_cut;
       stands = λ chance. first_from c.folder all least (cond (syncs order) (length batches) least) (either (syncs order)) (first chance);
       synced = λ chance sync none. let P : Bool → Type 0 = λ b. StandsFirst c.folder all (cond b (length batches) least) in subst P sync (first chance);
     }
@@ -127,10 +134,10 @@ cut_only_told law order store batches least disk reply told c t s k =
 -- what was told and what the folder holds, as the history has it
 module _ (make : BatchesMakeMap) (began : Began) (told0 : List ℕ) (made : IsMade began) where
   -- between two lines
-  pub cut_between : (history : List Line) (store : Stored) (told : List ℕ) (c : Cut) → Runs (record { now = began.now }) history (state_of store) → told ≡ told0 ++ told_by history → c.told ≡ told
+  pub cut_between : (history : List Line) (store : Stored) (told : List ℕ) (c : Cut) → Runs (record { now = began.now }) history (state_of store) → told ≡ told0 ++ told_by history → c.told ≡ told → AreLeftWhole c
       → (NoChanceMatch c.folder c.written → StandsFirst c.folder (began.batches ++ numbered (began.last + 1) (written_by history)) (length began.batches + before_sync history))
       → CutOf began (orders_of history) told0 c
-  cut_between history store told c runs is same first = record {
+  cut_between history store told c runs is same older first = record {
     history = history;
     last = state_of store;
     is_history = record { orders_are = refl; runs = runs };
@@ -138,6 +145,7 @@ module _ (make : BatchesMakeMap) (began : Began) (told0 : List ℕ) (made : IsMa
     more = [];
     replies_are = append-nil (told_by history);
     told_is = same ∙ is;
+    whole = older;
     stands = λ chance.
         stands_after make began c.folder history (length (told_by history)) (length began.batches + before_sync history) made (omega (arith, synced_all history)) (omega (arith, begun_all history)) (first chance);
   }
@@ -177,6 +185,7 @@ module _ (make : BatchesMakeMap) (began : Began) (told0 : List ℕ) (made : IsMa
         more = i.tells.rest;
         replies_are = append_assoc (told_by history) i.tells.front i.tells.rest ∙ ap (λ t. told_by history ++ t) i.tells.whole ∙ sym (told_more history line);
         told_is = i.tells.told_is ∙ ap (λ t. t ++ i.tells.front) is ∙ append_assoc told0 (told_by history) i.tells.front;
+        whole = i.whole;
         stands = λ chance. subst A (sym long)
             (elim (cases_lt (length i.tells.front) (length line.told)) [
               | inl lt ↦ after (found + before_sync history) (omega (arith, synced_in history line (length i.tells.front) lt)) (i.stands chance)
@@ -196,7 +205,7 @@ module _ (make : BatchesMakeMap) (began : Began) (told0 : List ℕ) (made : IsMa
       let batches = began.batches ++ numbered (began.last + 1) (written_by history) in
       let none : i.tells.front ≡ [] = nil_from_length i.tells.front (omega (arith, ap length i.tells.whole, length-append i.tells.front i.tells.rest)) in
       let F : List Batch → Type 0 = λ bs. StandsFirst c.folder bs least in
-      cut_between history store told c runs is (i.tells.told_is ∙ ap (λ f. told ++ f) none ∙ append-nil told)
+      cut_between history store told c runs is (i.tells.told_is ∙ ap (λ f. told ++ f) none ∙ append-nil told) i.whole
       (λ chance. subst F (ap (λ bs. batches ++ bs) (none_numbered (store.last + 1)) ∙ append-nil batches) (i.stands chance))
 
 -- a cut of some orders is one of more: the history goes on, and no count changes for it
@@ -216,6 +225,7 @@ cut_of_more began given more told c o =
       more = o.more ++ told_by g.history;
       replies_are = sym (append_assoc o.replies o.more (told_by g.history)) ∙ ap (λ t. t ++ told_by g.history) o.replies_are ∙ sym (flat_map-append (λ (l : Line). l.told) h g.history);
       told_is = o.told_is;
+      whole = o.whole;
       stands = λ chance.
           let s = o.stands chance in
           let few : s.writes ≤ length (written_by h) = omega (arith, s.at_most, begun_within h (length o.replies)) in

@@ -185,7 +185,7 @@ module _ {D : Type 0} (certain : D → Type 0) (clock : D → ℕ) (left_since :
       subst P f.is_history.orders_are
       (joins clock left_since start old new Q f.cuts.leaves
       (widened clock left_since old new (LeavesFirst s.older s.own s.synced told) Q
-      (λ c l. cut_between make began told0 f.made h store told c f.is_history.runs f.told_is l.told_is (leaves_first s.older s.own all s.synced least told c s.all s.at_least l)) leaves))
+      (λ c l. cut_between make began told0 f.made h store told c f.is_history.runs f.told_is l.told_is l.whole (leaves_first s.older s.own all s.synced least told c s.all s.at_least l)) leaves))
 
 all_synced : (log : LogFile) (older own : List Batch) (last : ℕ) (disk : Disk) → log.failed ≡ false → StandsOn log older own (length own) last disk → (number : ℕ) → IsNumber number → IsSynced (disk (log_name number))
 all_synced log older own last disk whole on number is = elim (cases_lt log.number number) [

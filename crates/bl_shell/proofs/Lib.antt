@@ -15,4 +15,5 @@ mod StayLemmas
 mod SyncedLemmas
 mod TellLemmas
 mod TopLemmas
+mod WholeLemmas
 mod Rows

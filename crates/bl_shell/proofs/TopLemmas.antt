@@ -14,9 +14,10 @@ use Rattle.bl_shell.specs.Machine.{Began}
 use Rattle.bl_shell.specs.declared.stop.Stop.{Stop}
 use Rattle.bl_shell.specs.declared.stop.Stop.TheVariants as stop
 use Rattle.bl_shell.specs.declared.status.Status.{Status}
-use Rattle.bl_shell.specs.declared.status.Status.TheVariants.{TellFault, DiskFault, OutOfMemory, Corrupt, Full}
-use Rattle.bl_shell.specs.Causes.{IsSilent, IsOpening, IsRefusal, MayEnd, EndsAs, status_of, stop_of_store}
+use Rattle.bl_shell.specs.declared.status.Status.TheVariants.{Words, ReadFault, Long, TellFault, DiskFault, OutOfMemory, Corrupt, Full}
+use Rattle.bl_shell.specs.Causes.{IsForScript, IsInner, IsReading, IsSilent, IsOpening, IsRefusal, MayEnd, EndsAs, status_of, stop_of_store}
 use Rattle.bl_shell.specs.Carried.{Starts, TellsFront}
+use Rattle.bl_shell.specs.Cuts.{IsPastOpening}
 use Rattle.bl_shell.specs.Telling.{Begins, HasBegun, HasEnded, PassesIn, IsFull, corrupt_line, full_line}
 use Rattle.bl_shell.proofs.BreakLemmas.{breaks_in}
 use Rattle.bl_shell.proofs.LimitLemmas.{ends}
@@ -156,6 +157,61 @@ module _ (folder : Folder) (script told mid next : List ℕ) (status : Status) w
   ended_front (stop.Full limit) same front damaged corrupt full fulls short =
       let f = full limit refl in
       full_front f.0 limit f.1 f.2 (fulls limit refl) short
+
+-- a failed opening stops a run for nothing that the script brings
+pub opening_is_inner : (e : StoreErr) → IsInner (stop_of_store e)
+opening_is_inner store.Disk = tt
+opening_is_inner store.OutOfMemory = tt
+opening_is_inner (store.Corrupt name place) = tt
+opening_is_inner (store.Full number) = tt
+opening_is_inner store.Broken = tt
+
+pub inner_of : (s : Stop) → s ≡ stop.OutOfMemory → IsInner s
+inner_of s is = subst IsInner (sym is) tt
+
+-- so that the run's status is none of one that has read
+not_for_script : (s : Stop) → IsInner s → IsForScript (status_of s) → ⊥
+not_for_script stop.Read inner read = inner
+not_for_script stop.Tell inner read = read
+not_for_script stop.Disk inner read = read
+not_for_script stop.OutOfMemory inner read = read
+not_for_script stop.Long inner read = inner
+not_for_script (stop.Corrupt name place) inner read = read
+not_for_script (stop.Full limit) inner read = read
+
+unread_status : (s : Stop) (status : Status) → IsInner s → MayEnd s status → IsForScript status → ⊥
+unread_status s status inner may read = elim may [
+  | inl is ↦ not_for_script s inner (subst IsForScript is read)
+  | inr more ↦ elim more [ inl is ↦ subst IsForScript is read | inr is ↦ subst IsForScript is read ]
+]
+
+-- a run that was stopped before it read anything is not past its opening
+pub not_past : (s : Stop) (status : Status) (left left_after : List ℕ) → IsInner s → MayEnd s status → left_after ≡ left → IsPastOpening status left left_after → ⊥
+not_past s status left left_after inner may same past = elim past [
+  | inl read ↦ unread_status s status inner may read
+  | inr ne ↦ ne same
+]
+
+pub words_are_not_past : (status : Status) (left left_after : List ℕ) → status ≡ Words → left_after ≡ left → IsPastOpening status left left_after → ⊥
+words_are_not_past status left left_after is same past = elim past [ inl read ↦ subst IsForScript is read | inr ne ↦ ne same ]
+
+-- which stops end a run in a status for what the script brings
+for_script : (s : Stop) → IsForScript (status_of s) → IsReading s × IsSilent s
+for_script stop.Read read = (tt, tt)
+for_script stop.Tell read = absurd read
+for_script stop.Disk read = absurd read
+for_script stop.OutOfMemory read = absurd read
+for_script stop.Long read = (tt, tt)
+for_script (stop.Corrupt name place) read = absurd read
+for_script (stop.Full limit) read = absurd read
+
+pub stop_is_reading : (s : Stop) (status : Status) → MayEnd s status → (status ≡ ReadFault) ⊎ (status ≡ Long) → IsReading s × IsSilent s
+stop_is_reading s status may brought =
+    let read : IsForScript status = elim brought [ inl is ↦ subst IsForScript (sym is) tt | inr is ↦ subst IsForScript (sym is) tt ] in
+    elim may [
+      | inl is ↦ for_script s (subst IsForScript is read)
+      | inr more ↦ elim more [ inl is ↦ absurd (subst IsForScript is read) | inr is ↦ absurd (subst IsForScript is read) ]
+    ]
 
 stop_of_corrupt : (s : Stop) → status_of s ≡ Corrupt → (name : Name) × ((place : ℕ) × (s ≡ stop.Corrupt name place))
 stop_of_corrupt stop.Read is = absurd (cc is)

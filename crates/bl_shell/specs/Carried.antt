@@ -14,6 +14,7 @@ use Rattle.bl_script.specs.Parsing.{parsed}
 use Rattle.bl_script.specs.Printing.{ok_line}
 use Rattle.bl_wal.specs.LogFile.{log_name}
 use Rattle.bl_wal.specs.Chance.{NoChanceMatch}
+use Rattle.bl_store.specs.Cuts.{AreLeftWhole}
 use Rattle.bl_store.specs.Folders.{Stands}
 use Rattle.bl_store.specs.Logs.{after_batches}
 use Rattle.bl_store.specs.Stored.{Stored, Carries}
@@ -69,9 +70,10 @@ pub record CutTelling (disk : Disk) (reply told : List ℕ) (c : Cut) : Type 0 w
   pub tells : TellsFront reply told c.told
   pub is_cut : IsCut disk c.told c
 
--- A cut while an order is obeyed: a front of its reply was told. The folder stands for the first of the batches before it and of what it writes; once the whole reply of one that syncs was told, for all those before it.
+-- A cut while an order is obeyed: a front of its reply was told, and older logs are left whole. The folder stands for the first of the batches before it and of what it writes; once the whole reply of one that syncs was told, for all those before it.
 pub record CutIn (order : Parsed) (old : Stored) (batches : List Batch) (least : ℕ) (told : List ℕ) (c : Cut) : Type 0 where
   pub tells : TellsFront (reply_of order old.now) told c.told
+  pub whole : AreLeftWhole c
   pub stands : NoChanceMatch c.folder c.written → StandsFirst c.folder (batches ++ numbered (old.last + 1) (writes_of order)) least
   pub synced : NoChanceMatch c.folder c.written → syncs order ≡ true → tells.rest ≡ [] → StandsFirst c.folder (batches ++ numbered (old.last + 1) (writes_of order)) (length batches)
 

@@ -89,6 +89,18 @@ status_of stop.Long = Long
 status_of (stop.Corrupt name place) = Corrupt
 status_of (stop.Full number) = Full
 
+-- the status of a run that read its script: to its end, up to a failed read, or up to the limit
+abbrev pub IsForScript : Status → Type 0
+IsForScript Done = Unit {0}
+IsForScript Words = ⊥
+IsForScript ReadFault = Unit {0}
+IsForScript TellFault = ⊥
+IsForScript DiskFault = ⊥
+IsForScript OutOfMemory = ⊥
+IsForScript Corrupt = ⊥
+IsForScript Full = ⊥
+IsForScript Long = Unit {0}
+
 -- a stop ends the run with its status; or its line could not be told
 abbrev pub MayEnd : Stop → Status → Type 0
 MayEnd s status = (status ≡ status_of s) ⊎ ((status ≡ TellFault) ⊎ (status ≡ OutOfMemory))

@@ -1,5 +1,5 @@
 -- What a power cut at some moment of a run leaves.
-use Rattle.std.specs.Prelude.{◌≡◌, ◌⊎◌, ℕ, List, [], ◌++◌}
+use Rattle.std.specs.Prelude.{◌≡◌, ◌≢◌, ◌⊎◌, ℕ, ◌≤◌, List, [], ◌++◌}
 use Rattle.std.proofs.Common.{inl, inr}
 use Rattle.bl_site.specs.Disk.{Name, Folder, Disk, Cut, MayLeave, folder_of, written_of}
 use Rattle.bl_names.specs.Names.{IsNumber}
@@ -10,6 +10,8 @@ use Rattle.bl_store.specs.Folders.{LogStands}
 use Rattle.bl_store.specs.Stored.{IsSynced}
 use Rattle.bl_shell.specs.Machine.{State, Line, IsHistory, orders, orders_of, Began}
 use Rattle.bl_shell.specs.Synced.{CutOf}
+use Rattle.bl_shell.specs.declared.status.Status.{Status}
+use Rattle.bl_shell.specs.Causes.{IsForScript}
 use Rattle.bl_shell.specs.Telling.{Begins, IsFull, PassesIn, corrupt_line, full_line}
 
 -- a front of a line that ends a run
@@ -30,7 +32,7 @@ pub record CutBefore (may_be : Disk → Type 0) (folder : Folder) (told : List �
   pub told_is : c.told ≡ told ++ error
   pub before : BeforeBarrier folder may_be told (told_only told c)
 
--- A cut behind it, of a run that was given these orders: unless a torn fragment's checksum matches by chance, the folder stands for the map after a prefix of the writes that holds each one acknowledged as synced. Replies alone are counted, not the front of an error line behind them.
+-- A cut behind it, of a run that was given these orders: older logs are left whole and, unless a torn fragment's checksum matches by chance, the folder stands for the map after a prefix of the writes that holds each one acknowledged as synced. Replies alone are counted, not the front of an error line behind them.
 pub record CutStands (folder : Folder) (given : List Parsed) (told : List ℕ) (c : Cut) : Type 0 where
   pub began : Began
   pub begins : Begins folder began
@@ -43,6 +45,21 @@ pub record CutStands (folder : Folder) (given : List Parsed) (told : List ℕ) (
 -- a cut at any moment of a run
 abbrev pub CutOfRun : (Disk → Type 0) → Folder → List Parsed → List ℕ → Cut → Type 0
 CutOfRun may_be folder given told c = CutBefore may_be folder told c ⊎ CutStands folder given told c
+
+-- such a cut inside a run, before a line that ends it is told
+abbrev pub CutPast : Folder → List Parsed → List ℕ → Cut → Type 0
+CutPast folder given told c = (began : Began) × Begins folder began × CutOf began given told c
+
+-- from some moment of a call on, every cut leaves what has P
+pub record FromSomeMoment {D : Type 0} (clock : D → ℕ) (left_since : D → ℕ → Cut → Type 0) (old new : D) (P : Cut → Type 0) : Type 0 where
+  pub moment : ℕ
+  pub not_before : clock old ≤ moment
+  pub not_after : moment ≤ clock new
+  pub each : (c : Cut) → left_since new moment c → P c
+
+-- A run is past its opening, and so past the barrier: the script was read to its end, or could not be read on, or a byte of it was taken.
+abbrev pub IsPastOpening : Status → (left left_after : List ℕ) → Type 0
+IsPastOpening status left left_after = IsForScript status ⊎ (left_after ≢ left)
 
 -- the folder as it reads, with what was told and written so far, as a cut
 abbrev pub as_it_reads : Disk → List ℕ → Cut
@@ -79,7 +96,7 @@ pub record IsKept (certain : Type 0) (may_be : Disk → Type 0) (disk : Disk) (t
 
 -- Inside a run, before a line that ends it is told: a cut before the barrier, or one behind it.
 abbrev pub CutInRun : (Disk → Type 0) → Folder → List Parsed → List ℕ → Cut → Type 0
-CutInRun may_be folder given told c = BeforeBarrier folder may_be told c ⊎ ((began : Began) × Begins folder began × CutOf began given told c)
+CutInRun may_be folder given told c = BeforeBarrier folder may_be told c ⊎ CutPast folder given told c
 
 -- a limit is passed in the line in hand, behind these replies
 pub record Stops (folder : Folder) (script told told_after : List ℕ) (limit : ℕ) (since : (Cut → Type 0) → Type 0) : Type 0 where

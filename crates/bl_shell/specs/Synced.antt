@@ -7,6 +7,7 @@ use Rattle.bl_script.specs.declared.command.Command.TheVariants as command
 use Rattle.bl_script.specs.declared.command.Parsed.{Parsed}
 use Rattle.bl_script.specs.declared.command.Parsed.TheVariants.{Nothing, Refused, Go}
 use Rattle.bl_wal.specs.Chance.{NoChanceMatch}
+use Rattle.bl_store.specs.Cuts.{AreLeftWhole}
 use Rattle.bl_store.specs.Folders.{LogStands}
 use Rattle.bl_shell.specs.Machine.{State, Line, IsHistory, told_by, written_by, operations_in, after_writes, Began}
 
@@ -52,7 +53,7 @@ pub record StandsAfter (folder : Folder) (began : Began) (history : List Line) (
   pub fits : began.last + operations_in (take writes (written_by history)) < 2 ^ 56
   pub stands : LogStands folder (after_writes (take writes (written_by history)) began.now)
 
--- A cut of a run that obeys these orders: a front of the replies was told and, unless a torn fragment's checksum matches by chance, the folder stands for the map after a prefix of the writes.
+-- A cut of a run that obeys these orders: a front of the replies was told, older logs are left whole and, unless a torn fragment's checksum matches by chance, the folder stands for the map after a prefix of the writes.
 pub record CutOf (began : Began) (given : List Parsed) (told : List ℕ) (c : Cut) : Type 0 where
   pub history : List Line
   pub last : State
@@ -61,4 +62,5 @@ pub record CutOf (began : Began) (given : List Parsed) (told : List ℕ) (c : Cu
   pub more : List ℕ
   pub replies_are : replies ++ more ≡ told_by history
   pub told_is : c.told ≡ told ++ replies
+  pub whole : AreLeftWhole c
   pub stands : NoChanceMatch c.folder c.written → StandsAfter c.folder began history (length replies)

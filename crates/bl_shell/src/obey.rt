@@ -11,6 +11,7 @@ ghost use Rattle.bl_script.specs.Printing.{ok_line, end_line, pair_line};
 ghost use Rattle.bl_wal.specs.LogFile.{log_name};
 ghost use Rattle.bl_wal.specs.Held.{Batches};
 ghost use Rattle.bl_store.specs.Pairs.{pairs_between};
+ghost use Rattle.bl_store.specs.Stored.{KeepsOthers};
 ghost use Rattle.bl_shell.specs.Machine.{writes_of, reply_of, reply};
 ghost use Rattle.bl_shell.specs.Carried.{Stays, TellsFront, Obeyed, Passes, HasRoom, IsWrite, IsTold, CutIn, CutTelling};
 ghost use Rattle.bl_shell.specs.Causes.{IsInner, IsSilent};
@@ -41,6 +42,7 @@ fn do_write<S: Site>(
     ensures corrupt { (name : Name) (place : ℕ) → result ≡ Err (Stop.Corrupt name place) → ⊥ }
     ensures disk { IsErrOf result Stop.Disk → Rose (S.disk_faults site.old) (S.disk_faults site.new) }
     ensures tell { IsErrOf result Stop.Tell → Rose (S.tell_faults site.old) (S.tell_faults site.new) }
+    ensures others { S.shows → KeepsOthers (S.disk site.old) (S.disk site.new) }
     ensures causes { IfErr result IsInner }
     ensures certain { S.shows → OnOk result (S.certain site.old → S.certain site.new) }
     ensures cuts { S.shows → S.certain site.old → (order : Parsed) → IsWrite order batch.now → (batches : Batches) (least : ℕ) → Stays store.old batches least (S.disk site.old)
@@ -60,6 +62,7 @@ fn do_tell<S: Site>(store: &Store, reply: &[u8], site: &mut S) -> Result<(), Sto
     ensures ok { S.shows → OnOk result ((order : Parsed) → IsTold order store.now.now reply.now → Obeyed order store.now store.now (S.disk site.old) (S.disk site.new) (S.told site.old) (S.told site.new)) }
     ensures front { S.shows → OnErr result (TellsFront reply.now (S.told site.old) (S.told site.new)) }
     ensures tell { IsErrOf result Stop.Tell → Rose (S.tell_faults site.old) (S.tell_faults site.new) }
+    ensures others { S.shows → KeepsOthers (S.disk site.old) (S.disk site.new) }
     ensures causes { IfErr result (λ e. (e ≡ Stop.Tell) ⊎ (e ≡ Stop.OutOfMemory)) }
     ensures certain { S.shows → S.certain site.old → S.certain site.new }
     ensures cuts { S.shows → S.certain site.old → LeavesOnly S.clock S.left_since site.old site.new (CutTelling (S.disk site.old) reply.now (S.told site.old)) }
@@ -81,6 +84,7 @@ fn tell_pairs<S: Site>(
     ensures stays { S.shows → S.disk site.new ≡ S.disk site.old }
     ensures front { S.shows → OnErr result (TellsFront (reply (Command.Scan (option_copied from.entry) (option_copied to.entry)) store.now.now) (S.told site.old) (S.told site.new)) }
     ensures tell { IsErrOf result Stop.Tell → Rose (S.tell_faults site.old) (S.tell_faults site.new) }
+    ensures others { S.shows → KeepsOthers (S.disk site.old) (S.disk site.new) }
     ensures causes { IfErr result (λ e. (e ≡ Stop.Tell) ⊎ (e ≡ Stop.OutOfMemory)) }
     ensures certain { S.shows → S.certain site.old → S.certain site.new }
     ensures cuts { S.shows → S.certain site.old → LeavesOnly S.clock S.left_since site.old site.new
@@ -106,6 +110,7 @@ fn do_sync<S: Site>(store: &mut Store, site: &mut S) -> Result<(), Stop>
     ensures corrupt { S.shows → (name : Name) (place : ℕ) → result ≡ Err (Stop.Corrupt name place) → ⊥ }
     ensures disk { IsErrOf result Stop.Disk → Rose (S.disk_faults site.old) (S.disk_faults site.new) }
     ensures tell { IsErrOf result Stop.Tell → Rose (S.tell_faults site.old) (S.tell_faults site.new) }
+    ensures others { S.shows → KeepsOthers (S.disk site.old) (S.disk site.new) }
     ensures causes { IfErr result IsInner }
     ensures certain { S.shows → OnOk result (S.certain site.old → S.certain site.new) }
     ensures cuts { S.shows → S.certain site.old → (batches : Batches) (least : ℕ) → Stays store.old batches least (S.disk site.old)
@@ -132,6 +137,7 @@ fn do_reopen<S: Site>(store: &mut Store, alloc: Global, site: &mut S) -> Result<
     ensures corrupt { S.shows → (name : Name) (place : ℕ) → result ≡ Err (Stop.Corrupt name place) → ⊥ }
     ensures disk { IsErrOf result Stop.Disk → Rose (S.disk_faults site.old) (S.disk_faults site.new) }
     ensures tell { IsErrOf result Stop.Tell → Rose (S.tell_faults site.old) (S.tell_faults site.new) }
+    ensures others { S.shows → KeepsOthers (S.disk site.old) (S.disk site.new) }
     ensures causes { IfErr result IsInner }
     ensures certain { S.shows → OnOk result (S.certain site.old → S.certain site.new) }
     ensures cuts { S.shows → S.certain site.old → (batches : Batches) (least : ℕ) → Stays store.old batches least (S.disk site.old)
@@ -167,6 +173,7 @@ fn do_command<S: Site>(
     ensures corrupt { S.shows → (name : Name) (place : ℕ) → result ≡ Err (Stop.Corrupt name place) → ⊥ }
     ensures disk { IsErrOf result Stop.Disk → Rose (S.disk_faults site.old) (S.disk_faults site.new) }
     ensures tell { IsErrOf result Stop.Tell → Rose (S.tell_faults site.old) (S.tell_faults site.new) }
+    ensures others { S.shows → KeepsOthers (S.disk site.old) (S.disk site.new) }
     ensures causes { IfErr result IsInner }
     ensures certain { S.shows → OnOk result (S.certain site.old → S.certain site.new) }
     ensures cuts { S.shows → S.certain site.old → (batches : Batches) (least : ℕ) → Stays store.old batches least (S.disk site.old)
@@ -218,6 +225,7 @@ pub(crate) fn obey<S: Site>(
     ensures corrupt { S.shows → (name : Name) (place : ℕ) → result ≡ Err (Stop.Corrupt name place) → ⊥ }
     ensures disk { IsErrOf result Stop.Disk → Rose (S.disk_faults site.old) (S.disk_faults site.new) }
     ensures tell { IsErrOf result Stop.Tell → Rose (S.tell_faults site.old) (S.tell_faults site.new) }
+    ensures others { S.shows → KeepsOthers (S.disk site.old) (S.disk site.new) }
     ensures causes { IfErr result IsInner }
     ensures certain { S.shows → OnOk result (S.certain site.old → S.certain site.new) }
     ensures cuts { S.shows → S.certain site.old → (batches : Batches) (least : ℕ) → Stays store.old batches least (S.disk site.old)

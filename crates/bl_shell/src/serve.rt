@@ -4,6 +4,7 @@ ghost use Rattle.std.specs.Prelude.{◌≡◌, ℕ, ◌+◌, ◌-◌, ◌<◌, �
 ghost use Rattle.bl_site.specs.Disk.{Name, Folder, folder_of};
 ghost use Rattle.bl_site.specs.Calls.{LeavesOnly};
 ghost use Rattle.bl_site.specs.Causes.{Rose};
+ghost use Rattle.bl_store.specs.Stored.{KeepsOthers};
 ghost use Rattle.bl_shell.specs.Causes.{IsInner, IsReading, IsSilent, TookOver};
 ghost use Rattle.bl_shell.specs.Carried.{Carried, Starts, Finished, Steady, NoLineEnd};
 ghost use Rattle.bl_shell.specs.Cuts.{IsKept, Stops};
@@ -65,6 +66,7 @@ fn end_line<S: Site>(
     ensures disk { IsErrOf result Stop.Disk → Rose (S.disk_faults site.old) (S.disk_faults site.new) }
     ensures tell { IsErrOf result Stop.Tell → Rose (S.tell_faults site.old) (S.tell_faults site.new) }
     ensures causes { IfErr result IsInner }
+    ensures others { S.shows → KeepsOthers (S.disk site.old) (S.disk site.new) }
     ensures later { (S.disk_faults site.old ≤ S.disk_faults site.new) × (S.tell_faults site.old ≤ S.tell_faults site.new) }
 {
     batches_make_the_map();
@@ -102,6 +104,7 @@ fn feed<S: Site>(
     ensures disk { IsErrOf result Stop.Disk → Rose (S.disk_faults site.old) (S.disk_faults site.new) }
     ensures tell { IsErrOf result Stop.Tell → Rose (S.tell_faults site.old) (S.tell_faults site.new) }
     ensures causes { IfErr result IsInner }
+    ensures others { S.shows → KeepsOthers (S.disk site.old) (S.disk site.new) }
     ensures later { (S.disk_faults site.old ≤ S.disk_faults site.new) × (S.tell_faults site.old ≤ S.tell_faults site.new) }
 {
     let mut at = 0;
@@ -141,6 +144,7 @@ fn end_script<S: Site>(
     ensures disk { IsErrOf result Stop.Disk → Rose (S.disk_faults site.old) (S.disk_faults site.new) }
     ensures tell { IsErrOf result Stop.Tell → Rose (S.tell_faults site.old) (S.tell_faults site.new) }
     ensures causes { IfErr result IsInner }
+    ensures others { S.shows → KeepsOthers (S.disk site.old) (S.disk site.new) }
     ensures later { (S.disk_faults site.old ≤ S.disk_faults site.new) × (S.tell_faults site.old ≤ S.tell_faults site.new) }
 {
     if line.is_empty() {
@@ -178,6 +182,7 @@ fn finish<S: Site>(
     ensures disk { IsErrOf result Stop.Disk → Rose (S.disk_faults site.old) (S.disk_faults site.new) }
     ensures tell { IsErrOf result Stop.Tell → Rose (S.tell_faults site.old) (S.tell_faults site.new) }
     ensures causes { IfErr result IsInner }
+    ensures others { S.shows → KeepsOthers (S.disk site.old) (S.disk site.new) }
     ensures later { (S.disk_faults site.old ≤ S.disk_faults site.new) × (S.tell_faults site.old ≤ S.tell_faults site.new) }
 {
     stores_stand();
@@ -221,6 +226,7 @@ pub(crate) fn serve<R: Source, S: Site>(
     ensures bound { R.taken script.new ≤ R.taken script.old + 2 ^ 40 + length buffer.old }
     ensures disk { IsErrOf result Stop.Disk → Rose (S.disk_faults site.old) (S.disk_faults site.new) }
     ensures tell { IsErrOf result Stop.Tell → Rose (S.tell_faults site.old) (S.tell_faults site.new) }
+    ensures others { S.shows → KeepsOthers (S.disk site.old) (S.disk site.new) }
     ensures later { S.tell_faults site.old ≤ S.tell_faults site.new }
 {
     cuts_stand();

@@ -5,10 +5,12 @@ ghost use Rattle.bl_site.specs.Disk.{Name, folder_of};
 ghost use Rattle.bl_site.specs.Calls.{LeavesOnly, Tells};
 ghost use Rattle.bl_site.specs.Causes.{Rose};
 ghost use Rattle.bl_wal.specs.LogFile.{log_name};
+ghost use Rattle.bl_store.specs.Cuts.{AreWhole};
 ghost use Rattle.bl_store.specs.Damage.{IsDamaged};
-ghost use Rattle.bl_shell.specs.Causes.{IsOpening, IsReading, IsRefusal, IsSilent, TookOver, status_of, MayEnd, EndsAs};
+ghost use Rattle.bl_store.specs.Stored.{KeepsOthers};
+ghost use Rattle.bl_shell.specs.Causes.{IsInner, IsOpening, IsReading, IsRefusal, IsSilent, TookOver, status_of, MayEnd, EndsAs};
 ghost use Rattle.bl_shell.specs.Carried.{TellsFront};
-ghost use Rattle.bl_shell.specs.Cuts.{CutInRun, CutOfRun, HasStopped, IsKept, StopsRun, TellsError, as_it_reads};
+ghost use Rattle.bl_shell.specs.Cuts.{CutInRun, CutOfRun, CutPast, CutStands, FromSomeMoment, HasStopped, IsKept, IsPastOpening, StopsRun, TellsError, as_it_reads};
 ghost use Rattle.bl_shell.specs.Machine.{orders};
 ghost use Rattle.bl_shell.specs.Telling.{HasRun, HasTaken, HasBegun, HasEnded, corrupt_line, full_line};
 
@@ -42,6 +44,9 @@ fn run_on<R: Source, S: Site>(alloc: Global, script: &mut R, site: &mut S) -> Re
         → StopsRun (S.may_be site.old) (folder_of (S.disk site.old)) (R.left script.old) (S.told site.old) (S.told site.new) limit (LeavesOnly S.clock S.left_since site.old site.new) }
     ensures kept { S.shows → R.shows → OnOk result (IsKept (S.certain site.new) (S.may_be site.new) (S.disk site.new) (S.told site.new) (folder_of (S.disk site.old)) (R.left script.old)) }
     ensures cuts { S.shows → R.shows → LeavesOnly S.clock S.left_since site.old site.new (CutInRun (S.may_be site.old) (folder_of (S.disk site.old)) (orders (R.left script.old)) (S.told site.old)) }
+    ensures past { S.shows → R.shows → (IsErr result × IfErr result IsInner × (script.new ≡ script.old))
+        ⊎ FromSomeMoment S.clock S.left_since site.old site.new (CutPast (folder_of (S.disk site.old)) (orders (R.left script.old)) (S.told site.old)) }
+    ensures others { S.shows → KeepsOthers (S.disk site.old) (S.disk site.new) }
     ensures corrupt { S.shows → (name : Name) (place : ℕ) → result ≡ Err (Stop.Corrupt name place) → IsDamaged (folder_of (S.disk site.old)) name place
         × (S.told site.new ≡ S.told site.old) × (folder_of (S.disk site.new) ≡ folder_of (S.disk site.old)) }
     ensures damaged { S.shows → (name : Name) (place : ℕ) → IsDamaged (folder_of (S.disk site.old)) name place → IsErr result × IfErr result IsOpening }
@@ -84,7 +89,7 @@ fn full_reply(alloc: Global, limit: u64) -> Result<String, Stop>
 fn tell_last<S: Site>(line: &[u8], status: Status, site: &mut S) -> Status
     ensures told { S.shows → EndsAs status result line.now (S.told site.old) (S.told site.new) }
     ensures cuts { S.shows → LeavesOnly S.clock S.left_since site.old site.new (Tells (S.may_be site.old) (S.told site.old) line.now) }
-    ensures stays { S.shows → folder_of (S.disk site.new) ≡ folder_of (S.disk site.old) }
+    ensures stays { S.shows → S.disk site.new ≡ S.disk site.old }
     ensures ends { (result ≡ status) ⊎ ((result ≡ Status.TellFault) ⊎ (result ≡ Status.OutOfMemory)) }
     ensures tell { result ≡ Status.TellFault → (status ≡ Status.TellFault) ⊎ Rose (S.tell_faults site.old) (S.tell_faults site.new) }
     ensures later { S.tell_faults site.old ≤ S.tell_faults site.new }
@@ -104,7 +109,7 @@ fn end<S: Site>(alloc: Global, stop: Stop, site: &mut S) -> Status
     ensures corrupt { S.shows → (name : Name) (place : ℕ) → stop ≡ Stop.Corrupt name place → EndsAs Status.Corrupt result (corrupt_line name place) (S.told site.old) (S.told site.new) }
     ensures full { S.shows → (limit : ℕ) → stop ≡ Stop.Full limit → EndsAs Status.Full result (full_line limit) (S.told site.old) (S.told site.new) }
     ensures cuts { S.shows → LeavesOnly S.clock S.left_since site.old site.new (TellsError (S.may_be site.old) (S.told site.old)) }
-    ensures stays { S.shows → folder_of (S.disk site.new) ≡ folder_of (S.disk site.old) }
+    ensures stays { S.shows → S.disk site.new ≡ S.disk site.old }
     ensures ends { MayEnd stop result }
     ensures tell { result ≡ Status.TellFault → (stop ≡ Stop.Tell) ⊎ Rose (S.tell_faults site.old) (S.tell_faults site.new) }
     ensures later { S.tell_faults site.old ≤ S.tell_faults site.new }
@@ -172,11 +177,21 @@ pub fn run<R: Source, S: Site>(
     // fragment's checksum matches by chance, the folder left stands for the map after a prefix of the writes that holds each one acknowledged as synced, and none that passes the limit.
     ensures cuts { S.shows → R.shows → LeavesOnly S.clock S.left_since site.old site.new (CutOfRun (S.may_be site.old) (folder_of (S.disk site.old)) (orders (R.left script.old)) (S.told site.old)) }
 
+    // The barrier is over before a byte of the script is taken: from some moment on, no cut leaves what one before the run might have left instead.
+    ensures past { S.shows → R.shows → IsPastOpening result (R.left script.old) (R.left script.new)
+        → FromSomeMoment S.clock S.left_since site.old site.new (CutStands (folder_of (S.disk site.old)) (orders (R.left script.old)) (S.told site.old)) }
+
+    // Then, wherever a log has data, no log of a lower number has an unsynced byte.
+    ensures whole { S.shows → R.shows → IsPastOpening result (R.left script.old) (R.left script.new) → AreWhole (S.disk site.new) }
+
     // The folder as it reads is one that such a cut leaves.
     ensures reads { S.shows → R.shows → S.left_since site.new (S.clock site.old) (as_it_reads (S.disk site.new) (S.told site.new)) }
 
     // From `Done` on every cut leaves the last map.
     ensures kept { S.shows → R.shows → result ≡ Status.Done → IsKept (S.certain site.new) (S.may_be site.new) (S.disk site.new) (S.told site.new) (folder_of (S.disk site.old)) (R.left script.old) }
+
+    // Whatever it answers, every name that is no log's stands for the file that it stood for.
+    ensures others { S.shows → KeepsOthers (S.disk site.old) (S.disk site.new) }
 
     // A fault in the folder ends the run before its first line, and so does a log of the greatest number.
     ensures damaged { S.shows → (name : Name) (place : ℕ) → IsDamaged (folder_of (S.disk site.old)) name place → (result ≡ Status.Words) ⊎ IsRefusal result }

@@ -115,6 +115,7 @@ stands_reads log older own synced last disk whole s number file is at = elim (ca
 all_there : (older own batches : List Batch) (synced : ℕ) (told : List ℕ) (c : Cut) → batches ≡ older ++ own → synced ≤ length own → LeavesFirst batches [] 0 told c → LeavesFirst older own synced told c
 all_there older own batches synced told c same within leaves = record {
   told_is = leaves.told_is;
+  whole = leaves.whole;
   stands = λ chance.
       let s = leaves.stands chance in
       let are : batches ++ take s.0 [] ≡ older ++ take (length own) own =

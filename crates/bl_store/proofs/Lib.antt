@@ -14,3 +14,4 @@ mod OpenLemmas
 mod OperationLemmas
 mod ReplayLemmas
 mod OnOk
+pub mod OtherLemmas

@@ -16,6 +16,7 @@ use Rattle.bl_store.proofs.CutLemmas.{OnlyNow}
 pub at_least : (older own : List Batch) (fewer least : ℕ) (told : List ℕ) (c : Cut) → fewer ≤ least → LeavesFirst older own least told c → LeavesFirst older own fewer told c
 at_least older own fewer least told c le leaves = record {
   told_is = leaves.told_is;
+  whole = leaves.whole;
   stands = λ chance. let s = leaves.stands chance in (s.0, omega (arith, le, s.1), s.2, s.3);
 }
 
@@ -23,6 +24,7 @@ at_least older own fewer least told c le leaves = record {
 pub of_more : (older own more : List Batch) (least : ℕ) (told : List ℕ) (c : Cut) → LeavesFirst older own least told c → LeavesFirst older (own ++ more) least told c
 of_more older own more least told c leaves = record {
   told_is = leaves.told_is;
+  whole = leaves.whole;
   stands = λ chance.
       let s = leaves.stands chance in
       let P : List Batch → Type 0 = λ bs. Stands c.folder (older ++ bs) s.3.0 in

@@ -15,7 +15,7 @@ use Rattle.bl_store.specs.Logs.{bytes_in, log_bytes, records_up_to}
 use Rattle.bl_store.specs.Folders.{HasOnlyLogs, Stands}
 use Rattle.bl_store.specs.Laws.{StoresStand, CutsStand, SyncedStoresAreLeft, OlderLogsAreSynced}
 use Rattle.bl_store.specs.Stored.{IsSynced, StandsOn}
-use Rattle.bl_store.specs.Cuts.{HasData}
+use Rattle.bl_store.specs.Cuts.{HasData, HasBytes, AreLeftWhole}
 use Rattle.bl_store.specs.Damage.{BreaksAt, IsDamaged}
 use Rattle.bl_store.proofs.BatchLemmas.{join_none, join_some, none_then}
 use Rattle.bl_store.proofs.LogLemmas.{up_to_next, up_to_same, splits}
@@ -130,9 +130,36 @@ left_stands join log older own synced last disk told c s is own_left left bytes 
     (s.below_synced k (some, omega (arith, le, s.is_number.1)) (omega (arith, le, some)))))) ∙ s.below)
     there are follow
 
+-- a synced file is left as it was written
+abbrev written_in : Option File → Option (List ℕ)
+written_in o = option_map (λ (file : File). file.front ++ file.handed) o
+
+synced_written : (o : Option File) → IsSynced o → written_in o ≡ option_map (λ (file : File). file.read) o
+synced_written None synced = refl
+synced_written (Some file) synced = ap Some (ap (λ (h : List ℕ). file.front ++ h) synced.1 ∙ append-nil file.front ∙ synced.0)
+
+no_bytes : (o : Option (List ℕ)) → o ≡ None → HasBytes o → ⊥
+no_bytes None e has = has
+no_bytes (Some bytes) e has = cc e
+
+-- the logs below one that has data are below the log in use, and synced
+left_whole : (log : LogFile) (older own : List Batch) (synced last : ℕ) (disk : Disk) (told : List ℕ) (c : Cut) → StandsOn log older own synced last disk → IsCut disk told c → AreLeftWhole c
+left_whole log older own synced last disk told c s is lower upper number lt less has = elim (cases_lt log.number upper) [
+  | inl behind ↦
+      let gone = s.newest upper behind less in
+      elim has [
+        | inl left ↦ absurd (no_bytes (c.folder (log_name upper)) (none_left (disk (log_name upper)) (c.folder (log_name upper)) (is.image (log_name upper)) gone) left)
+        | inr wrote ↦ absurd (no_bytes (c.written (log_name upper)) (is.written_is (log_name upper) ∙ ap written_in gone) wrote)
+      ]
+  | inr le ↦
+      let here = s.below_synced lower number (omega (arith, lt, le)) in
+      synced_left (disk (log_name lower)) (c.folder (log_name lower)) (is.image (log_name lower)) here ∙ sym (synced_written (disk (log_name lower)) here) ∙ sym (is.written_is (log_name lower))
+]
+
 pub cuts_stand : BatchesJoin → CutLogsReadAsFronts → FrontsAreRead → CutsStand
 cuts_stand join cut fronts log older own synced last disk told c s is = record {
   told_is = is.told_is;
+  whole = left_whole log older own synced last disk told c s is;
   stands = λ chance.
       let r = cut disk log own synced told c s.is_number s.holds is chance in
       let f = fronts (map record_of own) s.between last r.count own s.follow in (

@@ -31,9 +31,20 @@ pub record BeforeBarrier (folder : Folder) (may_be : Disk → Type 0) (told : Li
   pub was : MayBeFound may_be found
   pub perhaps : (c.folder ≡ found) ⊎ WithNextLog folder found c.folder
 
--- Nothing more was told; and unless a torn fragment's checksum matches by chance, what is left stands for the older batches and the first ones of its own, at least so many.
+-- a byte stands under a name
+abbrev pub HasBytes : Option (List ℕ) → Type 0
+HasBytes None = ⊥
+HasBytes (Some bytes) = bytes ≡ [] → ⊥
+
+-- Wherever a log has data, in what a cut leaves of it or in what was written, it leaves each log of a lower number as it was written.
+abbrev pub AreLeftWhole : Cut → Type 0
+AreLeftWhole c = (lower upper : ℕ) → IsNumber lower → lower < upper → upper < 10 ^ 15 → HasBytes (c.folder (log_name upper)) ⊎ HasBytes (c.written (log_name upper))
+    → c.folder (log_name lower) ≡ c.written (log_name lower)
+
+-- Nothing more was told, and older logs are left whole. Unless a torn fragment's checksum matches by chance, what is left stands for the older batches and the first ones of its own, at least so many.
 pub record LeavesFirst (older own : List Batch) (least : ℕ) (told : List ℕ) (c : Cut) : Type 0 where
   pub told_is : c.told ≡ told
+  pub whole : AreLeftWhole c
   pub stands : NoChanceMatch c.folder c.written → (count : ℕ) × (least ≤ count) × (count ≤ length own) × ((left : ℕ) × Stands c.folder (older ++ take count own) left)
 
 -- a file that has a byte, as it reads or as it is written

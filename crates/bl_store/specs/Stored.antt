@@ -1,5 +1,5 @@
 -- What a contract sees of a store, and how it stands on a disk.
-use Rattle.std.specs.Prelude.{◌≡◌, ◌⊎◌, ℕ, ◌+◌, ◌-◌, ◌<◌, ◌^◌, Bool, false, List, [], ◌∷◌, ◌++◌, length, map as mapped, Option, refl, None, Some}
+use Rattle.std.specs.Prelude.{◌≡◌, ◌≢◌, ◌⊎◌, ℕ, ◌+◌, ◌-◌, ◌<◌, ◌^◌, Bool, false, List, [], ◌∷◌, ◌++◌, length, map as mapped, Option, refl, None, Some}
 use Rattle.std.specs.FinMap as map
 use Rattle.std.specs.FinMap.{empty, from_entries}
 use Rattle.std.specs.Coded.{Coded, code_by, coded×, coded_ℕ, coded_bool, coded_list}
@@ -85,6 +85,14 @@ MayAppend name bytes old new = (new ≡ old) ⊎ AppendsAny name bytes old new
 pub record Makes (name : Name) (old new : Folder) : Type 0 where
   pub made : new name ≡ Some []
   pub others : (other : Name) → (other ≡ name → ⊥) → new other ≡ old other
+
+-- every name but this one stands for the file that it stood for
+abbrev pub KeepsAllBut : Name → Disk → Disk → Type 0
+KeepsAllBut name old new = (other : Name) → other ≢ name → new other ≡ old other
+
+-- so does every name that is no log's
+abbrev pub KeepsOthers : Disk → Disk → Type 0
+KeepsOthers old new = (name : Name) → ((number : ℕ) → IsNumber number → name ≢ log_name number) → new name ≡ old name
 
 -- A store was opened on a folder: it stands on the folder's batches, and has made the next log, which is empty.
 pub record Opens (folder : Folder) (store : Stored) (disk : Disk) : Type 0 where

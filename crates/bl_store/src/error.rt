@@ -21,7 +21,7 @@ pub enum StoreErr {
     Corrupt(Octets, u64),
     /// A limit is reached: no sequence is left behind this last one, or this number is no file's, 10^15.
     Full(u64),
-    /// A writing call has failed before. The store is to be opened again.
+    /// The store is broken: a writing call failed once it had asked the folder. It is to be opened again.
     Broken,
 }
 

@@ -12,7 +12,7 @@ ghost use Rattle.bl_wal.specs.Held.{Batches};
 ghost use Rattle.bl_store.specs.Damage.{IsDamaged};
 ghost use Rattle.bl_store.specs.Folders.{Stands};
 ghost use Rattle.bl_store.specs.Pairs.{pairs_between};
-ghost use Rattle.bl_store.specs.Stored.{StandsOn, next_batch, next_record, wrote, Carries, Opens, MayAppend, MayHold};
+ghost use Rattle.bl_store.specs.Stored.{StandsOn, next_batch, next_record, wrote, Carries, Opens, MayAppend, MayHold, KeepsAllBut, KeepsOthers};
 ghost use Rattle.bl_store.specs.Cuts.{BeforeBarrier, LeavesFirst};
 ghost use Rattle.bl_store.specs.Causes.{IsOpening, IsWriting, IsEnding, IsRefusal};
 
@@ -83,6 +83,8 @@ impl Store {
         ensures opened { S.shows → IfOk result (λ store. Opens (folder_of (S.disk site.old)) store (S.disk site.new)) }
         ensures certain { S.shows → OnOk result (S.certain site.new) }
         ensures usable { IfOk result (λ store. store.broken ≡ false) }
+        ensures there { S.shows → IfOk result (λ store. IsSome (S.disk site.new (log_name store.log.number))) }
+        ensures others { S.shows → KeepsOthers (S.disk site.old) (S.disk site.new) }
         ensures corrupt { S.shows → (name : Name) (place : ℕ) → result ≡ Err (StoreErr.Corrupt name place) → IsDamaged (folder_of (S.disk site.old)) name place }
         ensures full { S.shows → (number : ℕ) → result ≡ Err (StoreErr.Full number) → (number ≡ 10 ^ 15) × IsSome (folder_of (S.disk site.old) (log_name (10 ^ 15 - 1)))
             × ((batches : Batches) × ((last : ℕ) × Stands (folder_of (S.disk site.old)) batches last)) }
@@ -119,9 +121,10 @@ impl Store {
 
     /// Writes a batch: to the log, as one record, and then to the map. Its operations take the next sequences.
     ///
-    /// Errors: `Broken` exactly where a writing call has failed before; else `Full` with the last sequence exactly where the
-    /// batch would pass sequence 2^56 - 1; `Disk`, after which some bytes may follow in the log; `OutOfMemory`. After `Broken`
-    /// and `Full` nothing has changed.
+    /// Errors: `Broken` exactly where the store is broken; else `Full` with the last sequence exactly where the batch would
+    /// pass sequence 2^56 - 1; `Disk`, after which the store is broken and reads as before, and some bytes may follow in the
+    /// log; `OutOfMemory`, after which it is broken where the folder was asked, and the map may then hold the first operations
+    /// of the batch. After `Broken`, after `Full`, and after `OutOfMemory` before the folder was asked nothing has changed.
     pub fn write<S: Site>(
         &mut self,
         alloc: Global,
@@ -130,6 +133,7 @@ impl Store {
     ) -> Result<(), StoreErr>
         requires there { S.shows → IsSome (S.disk site.old (log_name self.old.log.number)) }
         ensures written { OnOk result (self.new ≡ wrote self.old batch.now) }
+        ensures others { S.shows → KeepsAllBut (log_name self.old.log.number) (S.disk site.old) (S.disk site.new) }
         ensures appended { S.shows → OnOk result (Appends (log_name self.old.log.number) (next_record self.old batch.now) (next_record self.old batch.now) (S.disk site.old) (S.disk site.new)) }
         ensures carried { S.shows → OnOk result ((older own : Batches) (synced : ℕ) → Carries self.old older own synced (S.disk site.old)
             → Carries self.new older (own ++ next_batch self.old batch.now ∷ []) synced (S.disk site.new)) }
@@ -140,6 +144,11 @@ impl Store {
         ensures fits { OnOk result (self.old.last + length batch.now < 2 ^ 56) }
         ensures refused { IfErr result (λ e. IsRefusal e → (self.new ≡ self.old) × (site.new ≡ site.old)) }
         ensures stays { OnErr result (self.new.broken ≡ false → self.new ≡ self.old) }
+
+        // After `Disk` it reads as before.
+        ensures reading { IsErrOf result StoreErr.Disk → (self.new.now ≡ self.old.now) × (self.new.last ≡ self.old.last) }
+        ensures number { self.new.log.number ≡ self.old.log.number }
+        ensures still_there { S.shows → IsSome (S.disk site.new (log_name self.old.log.number)) }
 
         // It is broken exactly after `Disk`, and after `OutOfMemory` once the folder was asked; else nothing has changed.
         ensures breaks { IsErrOf result StoreErr.Disk → self.new.broken ≡ true }
@@ -185,12 +194,13 @@ impl Store {
 
     /// Syncs the log in use: all batches written are on the disk.
     ///
-    /// Errors: `Broken` exactly where a writing call has failed before, and then nothing has changed; `Disk` and `OutOfMemory`,
-    /// after which the store is broken.
+    /// Errors: `Broken` exactly where the store is broken, and then nothing has changed; `Disk` and `OutOfMemory`, after which
+    /// it is broken. It takes no memory of its own.
     pub fn sync<S: Site>(&mut self, site: &mut S) -> Result<(), StoreErr>
         requires there { S.shows → IsSome (S.disk site.old (log_name self.old.log.number)) }
         ensures same { OnOk result (self.new ≡ self.old) }
         ensures synced { S.shows → OnOk result (Syncs (log_name self.old.log.number) (S.disk site.old) (S.disk site.new)) }
+        ensures others { S.shows → KeepsAllBut (log_name self.old.log.number) (S.disk site.old) (S.disk site.new) }
         ensures reads { S.shows → OnOk result (folder_of (S.disk site.new) ≡ folder_of (S.disk site.old)) }
         ensures carried { S.shows → OnOk result ((older own : Batches) (synced : ℕ) → Carries self.old older own synced (S.disk site.old)
             → Carries self.new older own (length own) (S.disk site.new)) }
@@ -204,7 +214,9 @@ impl Store {
 
         // After a failure it is broken, and reads as before.
         ensures breaks { OnErr result (self.new.broken ≡ true) }
+        ensures asked { IsErrOf result StoreErr.OutOfMemory → S.changes site.new ≡ one_more (S.changes site.old) }
         ensures reading { (self.new.now ≡ self.old.now) × (self.new.last ≡ self.old.last) × (self.new.log.number ≡ self.old.log.number) }
+        ensures still_there { S.shows → IsSome (S.disk site.new (log_name self.old.log.number)) }
         ensures frayed { S.shows → IsErrOf result StoreErr.Disk → Frays (log_name self.old.log.number) (S.disk site.old) (S.disk site.new) }
         ensures kept { S.shows → IsErrOf result StoreErr.OutOfMemory → KeepsDisk S.disk S.may_be S.certain site.old site.new }
 

@@ -11,6 +11,7 @@ use Rattle.bl_shell.proofs.MomentLemmas.{replied}
 use Rattle.bl_shell.proofs.StayLemmas.{reopened_line, stays_reopened, stands, corrupt_was}
 use Rattle.bl_shell.proofs.TellLemmas.{tell_broke, tells_nothing}
 use Rattle.bl_shell.proofs.LimitLemmas.{reopened_room}
+use Rattle.bl_store.proofs.OtherLemmas.{others_same, others_then}
 use Rattle.bl_shell.proofs.obey.do_reopen.Goals as goal
 
 pub returns-in_err-store-clause-front : goal.returns-in_err-store-clause-front
@@ -36,19 +37,19 @@ returns-clause-ok g c = λ shown.
 
 pub returns-in_err-store-clause-cuts : goal.returns-in_err-store-clause-cuts
 returns-in_err-store-clause-cuts g c = λ shown certain batches least s.
-    widened g.S.Site.clock g.S.Site.left_since _ _ _ _ (λ cut l. cut_quiet (Go Reopen) c.args.store.now batches least _ cut l.told_is (leaves_first s.older s.own batches s.synced least _ cut s.all s.at_least l))
+    widened g.S.Site.clock g.S.Site.left_since _ _ _ _ (λ cut l. cut_quiet (Go Reopen) c.args.store.now batches least _ cut l.told_is l.whole (leaves_first s.older s.own batches s.synced least _ cut s.all s.at_least l))
     (c.open_site.ensures.cuts shown certain c.args.store.now.log s.older s.own s.synced c.args.store.now.last s.whole s.carries.on)
 
 pub returns-in_err-store-clause-full_cuts : goal.returns-in_err-store-clause-full_cuts
 returns-in_err-store-clause-full_cuts g c = λ shown certain limit is batches least s.
-    widened g.S.Site.clock g.S.Site.left_since _ _ _ _ (λ cut l. cut_quiet Nothing c.args.store.now batches least _ cut l.told_is (leaves_first s.older s.own batches s.synced least _ cut s.all s.at_least l))
+    widened g.S.Site.clock g.S.Site.left_since _ _ _ _ (λ cut l. cut_quiet Nothing c.args.store.now batches least _ cut l.told_is l.whole (leaves_first s.older s.own batches s.synced least _ cut s.all s.at_least l))
     (c.open_site.ensures.cuts shown certain c.args.store.now.log s.older s.own s.synced c.args.store.now.last s.whole s.carries.on)
 
 pub returns-in_err-tell-clause-cuts : goal.returns-in_err-tell-clause-cuts
 returns-in_err-tell-clause-cuts g c = λ shown certain batches least s.
     let mid = c.open_site.new.site in
     replied g.S.Site.clock g.S.Site.left_since g.S.Site.disk g.S.Site.told g.S.Site.may_be c.cuts_stand.ensures (Go Reopen) c.args.store.now _ batches least _ _ mid _
-    (widened g.S.Site.clock g.S.Site.left_since _ _ _ _ (λ cut l. cut_quiet (Go Reopen) c.args.store.now batches least _ cut l.told_is (leaves_first s.older s.own batches s.synced least _ cut s.all s.at_least l))
+    (widened g.S.Site.clock g.S.Site.left_since _ _ _ _ (λ cut l. cut_quiet (Go Reopen) c.args.store.now batches least _ cut l.told_is l.whole (leaves_first s.older s.own batches s.synced least _ cut s.all s.at_least l))
     (c.open_site.ensures.cuts shown certain c.args.store.now.log s.older s.own s.synced c.args.store.now.last s.whole s.carries.on))
     (c.tell.ensures.time shown) (λ other. g.met.S.Site.only shown mid other (c.in_ok-store.ensures.certain shown)) refl (c.open_site.ensures.told shown) (least_within c.args.store.now batches least _ s)
     (stays_reopened c.stores_stand.ensures c.batches_are_once.ensures c.args.store.now _ _ _ _ batches least c.in_ok-store.ensures.usable (c.in_ok-store.ensures.opened shown) refl s)
@@ -57,7 +58,7 @@ pub returns-clause-cuts : goal.returns-clause-cuts
 returns-clause-cuts g c = λ shown certain batches least s.
     let mid = c.open_site.new.site in
     replied g.S.Site.clock g.S.Site.left_since g.S.Site.disk g.S.Site.told g.S.Site.may_be c.cuts_stand.ensures (Go Reopen) c.args.store.now _ batches least _ _ mid _
-    (widened g.S.Site.clock g.S.Site.left_since _ _ _ _ (λ cut l. cut_quiet (Go Reopen) c.args.store.now batches least _ cut l.told_is (leaves_first s.older s.own batches s.synced least _ cut s.all s.at_least l))
+    (widened g.S.Site.clock g.S.Site.left_since _ _ _ _ (λ cut l. cut_quiet (Go Reopen) c.args.store.now batches least _ cut l.told_is l.whole (leaves_first s.older s.own batches s.synced least _ cut s.all s.at_least l))
     (c.open_site.ensures.cuts shown certain c.args.store.now.log s.older s.own s.synced c.args.store.now.last s.whole s.carries.on))
     (c.tell.ensures.time shown) (λ other. g.met.S.Site.only shown mid other (c.in_ok-store.ensures.certain shown)) refl (c.open_site.ensures.told shown) (least_within c.args.store.now batches least _ s)
     (stays_reopened c.stores_stand.ensures c.batches_are_once.ensures c.args.store.now _ _ _ _ batches least c.in_ok-store.ensures.usable (c.in_ok-store.ensures.opened shown) refl s)
@@ -69,3 +70,9 @@ pub returns-in_err-tell-clause-room : goal.returns-in_err-tell-clause-room
 returns-in_err-tell-clause-room g c = λ shown.
     let t = c.requires.there shown in
     any_err c.from_residual-in_err-tell.result _ (inr (reopened_room c.args.store.now _ t.0 t.1.0 _ _ (c.in_ok-store.ensures.opened shown) t.1.1))
+
+pub returns-in_err-tell-clause-others : goal.returns-in_err-tell-clause-others
+returns-in_err-tell-clause-others g c = λ shown. others_then _ _ _ (c.open_site.ensures.others shown) (others_same _ _ (c.tell.ensures.stays shown).same)
+
+pub returns-clause-others : goal.returns-clause-others
+returns-clause-others g c = λ shown. others_then _ _ _ (c.open_site.ensures.others shown) (others_same _ _ (c.tell.ensures.stays shown).same)

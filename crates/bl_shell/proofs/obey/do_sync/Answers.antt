@@ -9,6 +9,7 @@ use Rattle.bl_shell.proofs.CutLemmas.{cut_quiet, leaves_first, least_within}
 use Rattle.bl_shell.proofs.MomentLemmas.{replied}
 use Rattle.bl_shell.proofs.StayLemmas.{synced_line, stays_synced}
 use Rattle.bl_shell.proofs.TellLemmas.{tell_broke, tells_nothing}
+use Rattle.bl_store.proofs.OtherLemmas.{log_alone, others_same, others_then}
 use Rattle.bl_shell.proofs.obey.do_sync.Goals as goal
 
 pub returns-in_err-sync-clause-front : goal.returns-in_err-sync-clause-front
@@ -27,14 +28,14 @@ returns-clause-ok g c = λ shown.
 
 pub returns-in_err-sync-clause-cuts : goal.returns-in_err-sync-clause-cuts
 returns-in_err-sync-clause-cuts g c = λ shown certain batches least s.
-    widened g.S.Site.clock g.S.Site.left_since _ _ _ _ (λ cut l. cut_quiet (Go Sync) c.args.store.now batches least _ cut l.told_is (leaves_first s.older s.own batches s.synced least _ cut s.all s.at_least l))
+    widened g.S.Site.clock g.S.Site.left_since _ _ _ _ (λ cut l. cut_quiet (Go Sync) c.args.store.now batches least _ cut l.told_is l.whole (leaves_first s.older s.own batches s.synced least _ cut s.all s.at_least l))
     (c.sync.ensures.cuts shown certain s.older s.own s.synced s.carries)
 
 pub returns-in_err-tell-clause-cuts : goal.returns-in_err-tell-clause-cuts
 returns-in_err-tell-clause-cuts g c = λ shown certain batches least s.
     let mid = c.sync.new.site in
     replied g.S.Site.clock g.S.Site.left_since g.S.Site.disk g.S.Site.told g.S.Site.may_be c.cuts_stand.ensures (Go Sync) c.args.store.now c.sync.new.self batches least _ _ mid _
-    (widened g.S.Site.clock g.S.Site.left_since _ _ _ _ (λ cut l. cut_quiet (Go Sync) c.args.store.now batches least _ cut l.told_is (leaves_first s.older s.own batches s.synced least _ cut s.all s.at_least l))
+    (widened g.S.Site.clock g.S.Site.left_since _ _ _ _ (λ cut l. cut_quiet (Go Sync) c.args.store.now batches least _ cut l.told_is l.whole (leaves_first s.older s.own batches s.synced least _ cut s.all s.at_least l))
     (c.sync.ensures.cuts shown certain s.older s.own s.synced s.carries))
     (c.tell.ensures.time shown) (λ other. g.met.S.Site.only shown mid other (c.sync.ensures.certain shown certain)) refl (c.sync.ensures.told shown) (least_within c.args.store.now batches least _ s)
     (stays_synced c.args.store.now c.sync.new.self _ _ _ batches least c.in_ok-sync.ensures.same (c.in_ok-sync.ensures.carried shown) refl s)
@@ -46,7 +47,18 @@ pub returns-clause-cuts : goal.returns-clause-cuts
 returns-clause-cuts g c = λ shown certain batches least s.
     let mid = c.sync.new.site in
     replied g.S.Site.clock g.S.Site.left_since g.S.Site.disk g.S.Site.told g.S.Site.may_be c.cuts_stand.ensures (Go Sync) c.args.store.now c.sync.new.self batches least _ _ mid _
-    (widened g.S.Site.clock g.S.Site.left_since _ _ _ _ (λ cut l. cut_quiet (Go Sync) c.args.store.now batches least _ cut l.told_is (leaves_first s.older s.own batches s.synced least _ cut s.all s.at_least l))
+    (widened g.S.Site.clock g.S.Site.left_since _ _ _ _ (λ cut l. cut_quiet (Go Sync) c.args.store.now batches least _ cut l.told_is l.whole (leaves_first s.older s.own batches s.synced least _ cut s.all s.at_least l))
     (c.sync.ensures.cuts shown certain s.older s.own s.synced s.carries))
     (c.tell.ensures.time shown) (λ other. g.met.S.Site.only shown mid other (c.sync.ensures.certain shown certain)) refl (c.sync.ensures.told shown) (least_within c.args.store.now batches least _ s)
     (stays_synced c.args.store.now c.sync.new.self _ _ _ batches least c.in_ok-sync.ensures.same (c.in_ok-sync.ensures.carried shown) refl s)
+
+pub returns-in_err-sync-clause-others : goal.returns-in_err-sync-clause-others
+returns-in_err-sync-clause-others g c = λ shown. log_alone c.args.store.now.log.number _ _ (c.requires.there shown).1.1.carries.on.is_number (c.sync.ensures.others shown)
+
+pub returns-in_err-tell-clause-others : goal.returns-in_err-tell-clause-others
+returns-in_err-tell-clause-others g c = λ shown.
+    others_then _ _ _ (log_alone c.args.store.now.log.number _ _ (c.requires.there shown).1.1.carries.on.is_number (c.sync.ensures.others shown)) (others_same _ _ (c.tell.ensures.stays shown).same)
+
+pub returns-clause-others : goal.returns-clause-others
+returns-clause-others g c = λ shown.
+    others_then _ _ _ (log_alone c.args.store.now.log.number _ _ (c.requires.there shown).1.1.carries.on.is_number (c.sync.ensures.others shown)) (others_same _ _ (c.tell.ensures.stays shown).same)

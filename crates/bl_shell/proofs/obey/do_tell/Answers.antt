@@ -3,6 +3,7 @@ use Rattle.bl_shell.proofs.OnOk.{any_err}
 use Rattle.bl_shell.proofs.MomentLemmas.{telling}
 use Rattle.bl_shell.proofs.StayLemmas.{told_only}
 use Rattle.bl_shell.proofs.TellLemmas.{tell_broke}
+use Rattle.bl_store.proofs.OtherLemmas.{others_same}
 use Rattle.bl_shell.proofs.obey.do_tell.Goals as goal
 
 pub returns-in_err-tell-clause-front : goal.returns-in_err-tell-clause-front
@@ -21,3 +22,9 @@ pub returns-clause-cuts : goal.returns-clause-cuts
 returns-clause-cuts g c = λ shown certain.
     telling g.S.Site.clock g.S.Site.left_since g.S.Site.disk g.S.Site.told g.S.Site.may_be c.args.site.now _ c.args.reply.now (c.tell.ensures.time shown)
     (λ other. g.met.S.Site.only shown c.args.site.now other certain) (λ cut. g.met.S.Site.only_now shown c.args.site.now cut)
+
+pub returns-in_err-tell-clause-others : goal.returns-in_err-tell-clause-others
+returns-in_err-tell-clause-others g c = λ shown. others_same _ _ (c.tell.ensures.stays shown).same
+
+pub returns-clause-others : goal.returns-clause-others
+returns-clause-others g c = λ shown. others_same _ _ (c.tell.ensures.stays shown).same

@@ -16,6 +16,7 @@ use Rattle.bl_shell.proofs.StayLemmas.{wrote_line, stays_wrote}
 use Rattle.bl_shell.proofs.TellLemmas.{tell_broke, tells_nothing}
 use Rattle.bl_shell.proofs.TopLemmas.{stop_full}
 use Rattle.bl_shell.proofs.LimitLemmas.{written_room}
+use Rattle.bl_store.proofs.OtherLemmas.{log_alone, others_same, others_then}
 use Rattle.bl_shell.proofs.obey.do_write.Goals as goal
 
 pub returns-in_err-write-clause-front : goal.returns-in_err-write-clause-front
@@ -78,3 +79,14 @@ pub returns-in_err-tell-clause-room : goal.returns-in_err-tell-clause-room
 returns-in_err-tell-clause-room g c = λ shown. any_err c.from_residual-in_err-tell.result _ (inr (λ order w.
     let t = c.requires.there shown in
     written_room order c.args.batch.now c.args.store.now t.0 t.1.0 _ w c.in_ok-write.ensures.fits t.1.1))
+
+pub returns-in_err-write-clause-others : goal.returns-in_err-write-clause-others
+returns-in_err-write-clause-others g c = λ shown. log_alone c.args.store.now.log.number _ _ (c.requires.there shown).1.1.carries.on.is_number (c.write.ensures.others shown)
+
+pub returns-in_err-tell-clause-others : goal.returns-in_err-tell-clause-others
+returns-in_err-tell-clause-others g c = λ shown.
+    others_then _ _ _ (log_alone c.args.store.now.log.number _ _ (c.requires.there shown).1.1.carries.on.is_number (c.write.ensures.others shown)) (others_same _ _ (c.tell.ensures.stays shown).same)
+
+pub returns-clause-others : goal.returns-clause-others
+returns-clause-others g c = λ shown.
+    others_then _ _ _ (log_alone c.args.store.now.log.number _ _ (c.requires.there shown).1.1.carries.on.is_number (c.write.ensures.others shown)) (others_same _ _ (c.tell.ensures.stays shown).same)

@@ -12,6 +12,7 @@ use Rattle.bl_shell.specs.Telling.{HasBegun}
 use Rattle.bl_shell.proofs.OnOk.{each_err}
 use Rattle.bl_shell.proofs.CarriedLemmas.{pushed, broken, cuts_so_far}
 use Rattle.bl_shell.proofs.PieceLemmas.{line_more, line_follows, rest_follows, piece_ends}
+use Rattle.bl_store.proofs.OtherLemmas.{others_then}
 use Rattle.bl_shell.proofs.serve.feed.Goals as goal
 
 pub returns-in_err-push-clause-front : goal.returns-in_err-push-clause-front
@@ -95,6 +96,7 @@ lines-preserved g c =
       usable = c.in_ok-end_line.ensures.usable;
       disk = omega (arith, c.in_ok-end_line.ensures.later.0, c.lines.invariant.disk);
       tell = omega (arith, c.in_ok-end_line.ensures.later.1, c.lines.invariant.tell);
+      others = λ shown. others_then _ _ _ (c.lines.invariant.others shown) (c.end_line.ensures.others shown);
       carried = λ shown began folder told script start carried.
           let P : List ℕ → Type 0 = λ s. Carried began folder told s c.end_line.new.store c.end_line.new.line (g.S.Site.disk c.end_line.new.site) (g.S.Site.told c.end_line.new.site)
           (Steady g.S.Site.certain g.S.Site.clock g.S.Site.left_since start c.end_line.new.site) in
@@ -145,3 +147,6 @@ returns-clause-cuts g c = λ shown began folder told script more start carried.
     subst P (rest_follows script piece more c.lines.at)
     (cuts_so_far g.S.Site.certain g.S.Site.clock g.S.Site.left_since began folder told (script ++ take c.lines.at piece) _ _ _ _ start c.lines.site
     (c.lines.invariant.carried shown began folder told script start carried) (drop c.lines.at piece ++ more))
+
+pub returns-in_err-end_line-clause-others : goal.returns-in_err-end_line-clause-others
+returns-in_err-end_line-clause-others g c = λ shown. others_then _ _ _ (c.lines.invariant.others shown) (c.end_line.ensures.others shown)

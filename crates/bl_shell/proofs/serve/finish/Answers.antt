@@ -7,6 +7,7 @@ use Rattle.bl_shell.specs.Telling.{HasRun}
 use Rattle.bl_shell.proofs.OnOk.{each_err}
 use Rattle.bl_shell.proofs.EndLemmas.{has_run, all_begun, is_kept, last_cuts}
 use Rattle.bl_shell.proofs.StayLemmas.{log_is_there}
+use Rattle.bl_store.proofs.OtherLemmas.{log_alone, others_then}
 use Rattle.bl_shell.proofs.serve.finish.Goals as goal
 
 pub returns-in_err-end_script-clause-front : goal.returns-in_err-end_script-clause-front
@@ -41,6 +42,12 @@ returns-in_err-sync-clause-cuts g c = λ shown began folder told script start ca
     last_cuts g.S.Site.certain g.S.Site.clock g.S.Site.left_since c.batches_make_the_map.ensures began folder script told _ _ _ start c.end_script.new.site c.sync.new.site f
     (c.sync.ensures.cuts shown f.cuts.certain_now f.stays.older f.stays.own f.stays.synced f.stays.carries)
 
+pub returns-in_err-sync-clause-others : goal.returns-in_err-sync-clause-others
+returns-in_err-sync-clause-others g c = λ shown.
+    let t = c.requires.there shown in
+    let f = c.in_ok-end_script.ensures.ok shown t.0 t.1.0 t.1.1.0 t.1.1.1.0 t.1.1.1.1.0 t.1.1.1.1.1 in
+    others_then _ _ _ (c.end_script.ensures.others shown) (log_alone c.end_script.new.store.log.number _ _ f.stays.carries.on.is_number (c.sync.ensures.others shown))
+
 -- the whole script has run
 pub returns-clause-ok : goal.returns-clause-ok
 returns-clause-ok g c = λ shown began folder told script start begins carried.
@@ -53,6 +60,12 @@ returns-clause-cuts g c = λ shown began folder told script start carried.
     let f = c.in_ok-end_script.ensures.ok shown began folder told script start carried in
     last_cuts g.S.Site.certain g.S.Site.clock g.S.Site.left_since c.batches_make_the_map.ensures began folder script told _ _ _ start c.end_script.new.site c.sync.new.site f
     (c.sync.ensures.cuts shown f.cuts.certain_now f.stays.older f.stays.own f.stays.synced f.stays.carries)
+
+pub returns-clause-others : goal.returns-clause-others
+returns-clause-others g c = λ shown.
+    let t = c.requires.there shown in
+    let f = c.in_ok-end_script.ensures.ok shown t.0 t.1.0 t.1.1.0 t.1.1.1.0 t.1.1.1.1.0 t.1.1.1.1.1 in
+    others_then _ _ _ (c.end_script.ensures.others shown) (log_alone c.end_script.new.store.log.number _ _ f.stays.carries.on.is_number (c.sync.ensures.others shown))
 
 pub returns-clause-kept : goal.returns-clause-kept
 returns-clause-kept g c = λ shown began folder told script start begins carried.

@@ -11,6 +11,7 @@ use Rattle.bl_site.specs.Disk.{folder_of}
 use Rattle.bl_shell.proofs.OnOk.{on_ok, if_err, each_err}
 use Rattle.bl_shell.proofs.CarriedLemmas.{starts, broken, taken, cut_at_start, cuts_so_far}
 use Rattle.bl_shell.proofs.MomentLemmas.{still}
+use Rattle.bl_store.proofs.OtherLemmas.{others_then}
 use Rattle.bl_shell.proofs.serve.serve.Goals as goal
 
 pub reads-init : goal.reads-init
@@ -22,6 +23,7 @@ reads-init g c = record {
   faults = omega arith;
   disk = omega arith;
   tell = omega arith;
+  others = λ shown name ne. refl;
   eaten = λ shown.
       let site = c.args.site.now in
       let sure = c.requires.certain shown in (
@@ -119,6 +121,7 @@ reads-preserved g c =
       faults = omega (arith, c.in_ok-count.ensures.later, c.reads.invariant.faults);
       disk = omega (arith, c.in_ok-feed.ensures.later.0, c.reads.invariant.disk);
       tell = omega (arith, c.in_ok-feed.ensures.later.1, c.reads.invariant.tell);
+      others = λ shown. others_then _ _ _ (c.reads.invariant.others shown) (c.feed.ensures.others shown);
       eaten = λ shown.
           let i = c.reads.invariant.eaten shown in (
             i.0 ++ piece,
@@ -176,3 +179,9 @@ returns-in_err-feed-clause-cuts g c = λ shown known began folder s.
     let P : List ℕ → Type 0 = λ x. LeavesOnly g.S.Site.clock g.S.Site.left_since c.args.site.now c.feed.new.site (CutOf began (orders x) (g.S.Site.told c.args.site.now)) in
     subst P (ap (λ x. i.0 ++ x) (sym (c.in_ok-count.ensures.bytes known)) ∙ i.1.1 known)
     (c.feed.ensures.cuts shown began folder (g.S.Site.told c.args.site.now) i.0 (g.R.Source.left c.read.new.self) c.args.site.now (i.1.0 began folder s))
+
+pub returns-then-count-eq0-clause-others : goal.returns-then-count-eq0-clause-others
+returns-then-count-eq0-clause-others g c = λ shown. others_then _ _ _ (c.reads.invariant.others shown) (c.finish.ensures.others shown)
+
+pub returns-in_err-feed-clause-others : goal.returns-in_err-feed-clause-others
+returns-in_err-feed-clause-others g c = λ shown. others_then _ _ _ (c.reads.invariant.others shown) (c.feed.ensures.others shown)

@@ -1,8 +1,11 @@
-use Rattle.std.proofs.Common.{[], inr, ap, ◌∙◌, Err}
+use Rattle.std.proofs.Common.{ℕ, List, [], refl, sym, subst, inl, inr, ap, ◌∙◌, Err}
 use Rattle.bl_site.specs.Disk.{folder_of}
 use Rattle.bl_site.proofs.Moments.{widened}
-use Rattle.bl_shell.proofs.CrashLemmas.{ended, has_stopped, no_error_yet, reads_since, stop_is_full, untouched}
-use Rattle.bl_shell.proofs.TopLemmas.{ended_front, stop_is_corrupt, corrupt_told, refused}
+use Rattle.bl_shell.specs.Telling.{HasTaken}
+use Rattle.bl_shell.proofs.CrashLemmas.{ended, has_stopped, past_ended, past_unended, no_error_yet, reads_since, stop_is_full, untouched}
+use Rattle.bl_shell.proofs.TopLemmas.{ended_front, not_past, stop_is_reading, words_are_not_past, stop_is_corrupt, corrupt_told, refused}
+use Rattle.bl_shell.proofs.WholeLemmas.{whole_disk}
+use Rattle.bl_store.proofs.OtherLemmas.{others_same, others_then}
 use Rattle.bl_shell.proofs.top.run.Goals as goal
 
 pub returns-in-Ok-clause-done : goal.returns-in-Ok-clause-done
@@ -20,7 +23,14 @@ returns-in-Err-clause-corrupt g c = λ shown is.
 pub returns-in-Err-clause-same : goal.returns-in-Err-clause-same
 returns-in-Err-clause-same g c = λ shown is.
     let s = stop_is_corrupt c.in-Err.stop c.end.result c.end.ensures.ends is in
-    c.end.ensures.stays shown ∙ (c.in-Err.ensures.corrupt shown s.0 s.1.0 (ap Err s.1.1)).2
+    ap folder_of (c.end.ensures.stays shown) ∙ (c.in-Err.ensures.corrupt shown s.0 s.1.0 (ap Err s.1.1)).2
+
+pub returns-in-Err-clause-taken : goal.returns-in-Err-clause-taken
+returns-in-Err-clause-taken g c = λ shown known brought.
+    let s = stop_is_reading c.in-Err.stop c.end.result c.end.ensures.ends brought in
+    let t = c.in-Err.ensures.taken shown known s.0 in
+    let P : List ℕ → Type 0 = λ told. HasTaken (folder_of (g.S.Site.disk c.args.site.now)) t.0 (g.S.Site.told c.args.site.now) told in
+    (t.0, t.1, subst P (sym (ap g.S.Site.told (c.end.ensures.silent s.1).1)) t.2)
 
 pub returns-in-Err-clause-front : goal.returns-in-Err-clause-front
 returns-in-Err-clause-front g c = λ shown known short.
@@ -55,6 +65,40 @@ returns-in-Err-clause-full g c = λ shown known is.
     has_stopped c.end.result _ _ _ _ _ _ s.0 _ _ is f (c.end.ensures.full shown s.0 s.1)
     (ended g.S.Site.clock g.S.Site.left_since g.S.Site.told g.S.Site.may_be c.args.site.now mid c.end.new.site _ _ f.cuts (c.end.ensures.cuts shown) (λ t cut. g.met.S.Site.counts_now shown mid t cut))
 
+pub returns-then-not-is_empty-clause-past : goal.returns-then-not-is_empty-clause-past
+returns-then-not-is_empty-clause-past g c = λ shown known past. absurd (words_are_not_past _ _ _ refl refl past)
+
+pub returns-then-not-is_empty-clause-whole : goal.returns-then-not-is_empty-clause-whole
+returns-then-not-is_empty-clause-whole g c = λ shown known past. absurd (words_are_not_past _ _ _ refl refl past)
+
+pub returns-in-Ok-clause-past : goal.returns-in-Ok-clause-past
+returns-in-Ok-clause-past g c = λ shown known past. elim (c.in-Ok.ensures.past shown known) [
+  | inl unread ↦ absurd (cc unread.0)
+  | inr from ↦ past_unended g.S.Site.clock g.S.Site.left_since g.S.Site.told g.S.Site.may_be c.args.site.now c.run_on.new.site _ _ from
+]
+
+pub returns-in-Ok-clause-whole : goal.returns-in-Ok-clause-whole
+returns-in-Ok-clause-whole g c = λ shown known past.
+    let site = c.run_on.new.site in
+    let from = returns-in-Ok-clause-past g c shown known past in
+    whole_disk (g.S.Site.disk site) (g.S.Site.told site) (λ name file. g.met.S.Site.remnant shown site name file)
+    (λ cut is. (from.each cut (g.met.S.Site.counts_now shown site from.moment cut from.not_after (record { disk = g.S.Site.disk site; possible = g.met.S.Site.reads shown site; is_cut = is }))).stands.whole)
+
+pub returns-in-Err-clause-past : goal.returns-in-Err-clause-past
+returns-in-Err-clause-past g c = λ shown known past. elim (c.in-Err.ensures.past shown known) [
+  | inl unread ↦ absurd (not_past c.in-Err.stop c.end.result _ _ unread.1 c.end.ensures.ends (ap g.R.Source.left unread.2) past)
+  | inr from ↦
+      let mid = c.run_on.new.site in
+      past_ended g.S.Site.clock g.S.Site.left_since g.S.Site.told g.S.Site.may_be c.args.site.now mid c.end.new.site _ _ from (c.end.ensures.cuts shown) (λ t cut. g.met.S.Site.counts_now shown mid t cut)
+]
+
+pub returns-in-Err-clause-whole : goal.returns-in-Err-clause-whole
+returns-in-Err-clause-whole g c = λ shown known past.
+    let site = c.end.new.site in
+    let from = returns-in-Err-clause-past g c shown known past in
+    whole_disk (g.S.Site.disk site) (g.S.Site.told site) (λ name file. g.met.S.Site.remnant shown site name file)
+    (λ cut is. (from.each cut (g.met.S.Site.counts_now shown site from.moment cut from.not_after (record { disk = g.S.Site.disk site; possible = g.met.S.Site.reads shown site; is_cut = is }))).stands.whole)
+
 pub returns-then-not-is_empty-clause-reads : goal.returns-then-not-is_empty-clause-reads
 returns-then-not-is_empty-clause-reads g c = λ shown known.
     let site = c.args.site.now in
@@ -69,3 +113,6 @@ pub returns-in-Err-clause-reads : goal.returns-in-Err-clause-reads
 returns-in-Err-clause-reads g c = λ shown known.
     let site = c.end.new.site in
     reads_since g.S.Site.clock g.S.Site.left_since g.S.Site.told g.S.Site.may_be g.S.Site.disk c.args.site.now site _ (returns-in-Err-clause-cuts g c shown known) (g.met.S.Site.reads shown site) (λ name file. g.met.S.Site.remnant shown site name file) (λ t cut. g.met.S.Site.counts_now shown site t cut)
+
+pub returns-in-Err-clause-others : goal.returns-in-Err-clause-others
+returns-in-Err-clause-others g c = λ shown. others_then _ _ _ (c.in-Err.ensures.others shown) (others_same _ _ (c.end.ensures.stays shown))

@@ -4,11 +4,12 @@ use Rattle.bl_site.specs.Disk.{folder_of}
 use Rattle.bl_site.proofs.Moments.{widened}
 use Rattle.bl_store.specs.declared.error.StoreErr.TheVariants as store
 use Rattle.bl_store.specs.Causes.{IsRefusal}
-use Rattle.bl_shell.specs.Causes.{IsOpening, stop_of_store}
+use Rattle.bl_shell.specs.Causes.{IsInner, IsOpening, stop_of_store}
 use Rattle.bl_shell.specs.Telling.{HasRun, HasTaken, HasBegun}
-use Rattle.bl_shell.proofs.CrashLemmas.{opened_then, opened_stops, unopened}
+use Rattle.bl_shell.proofs.CrashLemmas.{opened_past, opened_then, opened_stops, unopened}
 use Rattle.bl_shell.proofs.OnOk.{on_ok, if_err}
-use Rattle.bl_shell.proofs.TopLemmas.{began_of, begins_open, starts_open, stands_open, opening_stops, stop_full, stop_corrupt}
+use Rattle.bl_shell.proofs.TopLemmas.{began_of, inner_of, opening_is_inner, begins_open, starts_open, stands_open, opening_stops, stop_full, stop_corrupt}
+use Rattle.bl_store.proofs.OtherLemmas.{others_then}
 use Rattle.bl_shell.proofs.top.run_on.Goals as goal
 
 pub returns-in_err-store-clause-full : goal.returns-in_err-store-clause-full
@@ -108,6 +109,27 @@ returns-in_err-store-clause-cuts g c = λ shown known. widened g.S.Site.clock g.
 pub returns-in_err-buffer-clause-cuts : goal.returns-in_err-buffer-clause-cuts
 returns-in_err-buffer-clause-cuts g c = λ shown known. unopened g.S.Site.clock g.S.Site.left_since g.S.Site.told g.S.Site.may_be c.args.site.now _ _ (λ cut. g.met.S.Site.only_now shown c.args.site.now cut)
 
+pub returns-in_err-buffer-clause-past : goal.returns-in_err-buffer-clause-past
+returns-in_err-buffer-clause-past g c =
+    let p = err_from_is_err_and c.from_residual.result c.from_residual.ensures.1 in
+    rw p.1 (λ shown known. inl (refl, subst IsInner (sym (cc p.2)) (inner_of c.in_err-buffer.field-0.0 c.in_err-buffer.ensures.memory), refl))
+
+pub returns-in_err-store-clause-past : goal.returns-in_err-store-clause-past
+returns-in_err-store-clause-past g c =
+    let p = err_from_is_err_and c.from_residual-in_err-store.result c.from_residual-in_err-store.ensures.1 in
+    let same : p.0 ≡ stop_of_store c.in_err-store.field-0.0 = cc p.2 in
+    rw p.1 (λ shown known. inl (refl, subst IsInner (sym same) (opening_is_inner c.in_err-store.field-0.0), refl))
+
+pub returns-clause-past : goal.returns-clause-past
+returns-clause-past g c = λ shown known.
+    let o = c.in_ok-store.ensures.opened shown in
+    let folder = folder_of (g.S.Site.disk c.args.site.now) in
+    let disk = g.S.Site.disk c.open_site.new.site in
+    let began = began_of folder c.in_ok-store.store disk o in
+    inr (opened_past g.S.Site.clock g.S.Site.left_since g.S.Site.told g.S.Site.may_be c.args.site.now c.open_site.new.site c.serve.new.site folder _ began (begins_open folder c.in_ok-store.store disk o c.batches_make_the_map.ensures)
+    (c.open_site.ensures.before shown).later
+    (c.serve.ensures.cuts shown known began folder (starts_open folder c.in_ok-store.store disk o c.in_ok-store.ensures.usable)) (c.in_ok-store.ensures.told shown))
+
 pub returns-clause-damaged : goal.returns-clause-damaged
 returns-clause-damaged g c = λ shown name place damaged.
     let o = c.in_ok-store.ensures.opened shown in
@@ -116,3 +138,6 @@ returns-clause-damaged g c = λ shown name place damaged.
 
 pub returns-clause-later : goal.returns-clause-later
 returns-clause-later g c = omega (arith, c.serve.ensures.later, c.in_ok-store.ensures.tell_faults)
+
+pub returns-clause-others : goal.returns-clause-others
+returns-clause-others g c = λ shown. others_then _ _ _ (c.open_site.ensures.others shown) (c.serve.ensures.others shown)

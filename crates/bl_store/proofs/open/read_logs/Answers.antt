@@ -2,7 +2,19 @@ use Rattle.std.proofs.Common.{sym, subst}
 use Rattle.bl_site.specs.Disk.{Disk, MayLeave}
 use Rattle.bl_store.specs.Cuts.{LeavesFound, AreReadAsWritten}
 use Rattle.bl_store.proofs.CutLemmas.{all_found, then_left, then_found}
+use Rattle.bl_store.proofs.OtherLemmas.{others_same, others_then}
 use Rattle.bl_store.proofs.open.read_logs.Goals as goal
+
+pub returns-in_err-sync_logs-clause-others : goal.returns-in_err-sync_logs-clause-others
+returns-in_err-sync_logs-clause-others g c = λ shown.
+    let disk = g.S.Site.disk in
+    others_then (disk c.args.site.now) (disk c.list_logs.new.site) (disk c.sync_logs.new.site) (others_same (disk c.args.site.now) (disk c.list_logs.new.site) (c.list_logs.ensures.stays shown).same) (c.sync_logs.ensures.others shown)
+
+pub returns-clause-others : goal.returns-clause-others
+returns-clause-others g c = λ shown.
+    let disk = g.S.Site.disk in
+    let synced = others_then (disk c.args.site.now) (disk c.list_logs.new.site) (disk c.sync_logs.new.site) (others_same (disk c.args.site.now) (disk c.list_logs.new.site) (c.list_logs.ensures.stays shown).same) (c.sync_logs.ensures.others shown) in
+    others_then (disk c.args.site.now) (disk c.sync_logs.new.site) (disk c.replay_logs.new.site) synced (others_same (disk c.sync_logs.new.site) (disk c.replay_logs.new.site) (c.replay_logs.ensures.stays shown).same)
 
 pub returns-clause-before : goal.returns-clause-before
 returns-clause-before g c = λ shown.

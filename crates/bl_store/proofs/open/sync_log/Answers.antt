@@ -1,4 +1,7 @@
-use Rattle.std.proofs.Common.{◌∙◌, ap, sym}
+use Rattle.std.proofs.Common.{◌∙◌, ap, sym, subst}
+use Rattle.bl_site.specs.Disk.{Name}
+use Rattle.bl_store.specs.Stored.{KeepsAllBut}
+use Rattle.bl_store.proofs.OtherLemmas.{log_alone, sync_alone}
 use Rattle.bl_site.proofs.Images.{sync_outcome}
 use Rattle.bl_store.proofs.CutLemmas.{SyncsOnce, once_found, once_left}
 use Rattle.bl_store.proofs.open.sync_log.Given as given
@@ -46,6 +49,16 @@ done g c shown =
       told_same = answer.told shown;
       time = answer.time shown;
     }
+
+pub returns-in_err-sync-clause-others : goal.returns-in_err-sync-clause-others
+returns-in_err-sync-clause-others g c = λ shown.
+    let P : Name → Type 0 = λ n. KeepsAllBut n (g.S.Site.disk c.args.site.now) (g.S.Site.disk c.sync.new.self) in
+    log_alone c.args.number _ _ c.requires.number (subst P (c.as_str.ensures.value ∙ c.in_ok-name.ensures) (sync_alone c.as_str.result.now _ _ (failed g c shown).outcome))
+
+pub returns-clause-others : goal.returns-clause-others
+returns-clause-others g c = λ shown.
+    let P : Name → Type 0 = λ n. KeepsAllBut n (g.S.Site.disk c.args.site.now) (g.S.Site.disk c.sync.new.self) in
+    log_alone c.args.number _ _ c.requires.number (subst P (c.as_str.ensures.value ∙ c.in_ok-name.ensures) (sync_alone c.as_str.result.now _ _ (done g c shown).outcome))
 
 pub returns-clause-before : goal.returns-clause-before
 returns-clause-before g c = λ shown.

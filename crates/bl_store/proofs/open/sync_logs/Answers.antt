@@ -4,6 +4,7 @@ use Rattle.bl_site.specs.Disk.{Folder, MayLeave}
 use Rattle.bl_wal.specs.LogFile.{log_name}
 use Rattle.bl_store.proofs.FolderLemmas.{sync_keeps, sync_syncs, reads_there, at_place, all_synced}
 use Rattle.bl_store.proofs.CutLemmas.{no_call, all_found, then_left, then_found, sync_reads}
+use Rattle.bl_store.proofs.OtherLemmas.{others_then}
 use Rattle.bl_store.proofs.open.sync_logs.Goals as goal
 
 pub sync_log-requires-clause-there : goal.sync_log-requires-clause-there
@@ -25,6 +26,7 @@ loop-number-preserved g c =
             | inl less ↦ inr (i.synced shown k less)
             | inr le ↦ inl (let same : k ≡ c.loop-number.number-index = omega (arith, lt, le) in ap (λ n. log_name (get_or c.args.numbers.now n 0)) same)
           ]);
+      others = λ shown. others_then (g.S.Site.disk c.args.site.now) (g.S.Site.disk c.loop-number.site) (g.S.Site.disk c.sync_log.new.site) (i.others shown) (c.sync_log.ensures.others shown);
       certain = λ shown sure. c.sync_log.ensures.certain shown (i.certain shown sure);
       before = λ shown.
           let site = g.S.Site in
@@ -48,6 +50,10 @@ returns-clause-synced g c = λ shown.
     all_synced c.args.numbers.now (g.S.Site.disk c.args.site.now) (g.S.Site.disk c.loop-number.site) (c.requires.logs shown) (i.same shown)
     (λ k lt. i.synced shown k (omega (arith, lt, c.loop-number-test.false)))
 
+pub returns-in_err-sync_log-clause-others : goal.returns-in_err-sync_log-clause-others
+returns-in_err-sync_log-clause-others g c = λ shown.
+    others_then (g.S.Site.disk c.args.site.now) (g.S.Site.disk c.loop-number.site) (g.S.Site.disk c.sync_log.new.site) (c.loop-number.invariant.others shown) (c.sync_log.ensures.others shown)
+
 pub returns-in_err-sync_log-clause-before : goal.returns-in_err-sync_log-clause-before
 returns-in_err-sync_log-clause-before g c = λ shown.
     let site = g.S.Site in
@@ -69,6 +75,7 @@ loop-number-init g c =
     record {
       same = λ shown. refl;
       synced = λ shown k lt. absurd (omega (arith, lt));
+      others = λ shown name ne. refl;
       certain = λ shown sure. sure;
       before = λ shown. all_found site.clock site.left_since site.told site.may_be old old (no_call site.clock site.left_since site.told site.may_be old (g.met.S.Site.only_now shown old));
       cuts = λ shown reads. (reads, no_call site.clock site.left_since site.told site.may_be old (g.met.S.Site.only_now shown old));

@@ -1,12 +1,14 @@
-use Rattle.std.proofs.Common.{◌≡◌, ◌^◌, false, sym, ap, refl, arith, Err}
+use Rattle.std.proofs.Common.{◌≡◌, ◌^◌, inl, inr, false, sym, ap, refl, arith, Err}
 use Rattle.std.proofs.lemmas.Result.{err_from_is_err_and}
 use Rattle.bl_site.specs.Disk.{folder_of}
 use Rattle.bl_names.specs.Names.{IsNumber}
 use Rattle.bl_store.specs.declared.error.StoreErr.TheVariants.{Corrupt, Full}
+use Rattle.bl_wal.specs.LogFile.{log_name}
 use Rattle.bl_store.specs.Stored.{Stored, map_in}
 use Rattle.bl_store.proofs.OpenLemmas.{none_left, next_is}
 use Rattle.bl_store.proofs.CarryLemmas.{WasRead, is_next, opens}
 use Rattle.bl_store.proofs.BarrierLemmas.{read_before, made_before, read_stands, made_stands, stands_reads}
+use Rattle.bl_store.proofs.OtherLemmas.{all_same, create_alone, log_alone, others_then}
 use Rattle.bl_store.proofs.store.Store.open_site.Goals as goal
 
 pub returns-clause-opened : goal.returns-clause-opened
@@ -86,6 +88,27 @@ returns-in_err-wal-clause-cuts g c = λ shown sure log older own synced last who
     c.names_one.ensures c.batches_are_once.ensures c.stores_stand.ensures mid c.create.new.site (map_in m.map.entries) m.last m.greatest c.in_ok-number.number whole
     (g.met.S.Site.counts_now shown mid) (c.read_logs.ensures.told shown) (λ other. g.met.S.Site.only shown mid other (c.read_logs.ensures.certain shown sure)) read next.0 next.1
     (c.read_logs.ensures.cuts shown (stands_reads log older own synced last (site.disk old) whole on)) (c.create.ensures.time shown)
+
+pub returns-in_err-wal-clause-others : goal.returns-in_err-wal-clause-others
+returns-in_err-wal-clause-others g c = λ shown.
+    let disk = g.S.Site.disk in
+    let next = c.in_ok-number.ensures.next in
+    let is : IsNumber c.in_ok-number.number = (omega (arith, next.0), next.1) in
+    let mid = disk c.read_logs.new.site in
+    let new = disk c.create.new.site in
+    others_then (disk c.args.site.now) mid new (c.read_logs.ensures.others shown) (log_alone c.in_ok-number.number mid new is (elim c.in_err-wal.ensures.causes [
+      | inl failed ↦ create_alone (log_name c.in_ok-number.number) mid new (c.in_err-wal.ensures.failed shown (ap Err failed))
+      | inr memory ↦ all_same (log_name c.in_ok-number.number) mid new (c.in_err-wal.ensures.memory shown (ap Err memory))
+    ]))
+
+pub returns-clause-others : goal.returns-clause-others
+returns-clause-others g c = λ shown.
+    let disk = g.S.Site.disk in
+    let next = c.in_ok-number.ensures.next in
+    let is : IsNumber c.in_ok-number.number = (omega (arith, next.0), next.1) in
+    let mid = disk c.read_logs.new.site in
+    let new = disk c.create.new.site in
+    others_then (disk c.args.site.now) mid new (c.read_logs.ensures.others shown) (log_alone c.in_ok-number.number mid new is (c.in_ok-wal.ensures.created shown).others)
 
 pub returns-clause-before : goal.returns-clause-before
 returns-clause-before g c = λ shown.

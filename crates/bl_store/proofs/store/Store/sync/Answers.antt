@@ -1,10 +1,11 @@
 use Rattle.std.proofs.Common.{ℕ, length, arith, ap, subst, Err, inl, inr}
 use Rattle.bl_site.specs.Disk.{Disk}
-use Rattle.bl_wal.specs.LogFile.{LogFile}
-use Rattle.bl_store.specs.Stored.{Stored, map_in, StandsOn, Carries}
+use Rattle.bl_wal.specs.LogFile.{LogFile, log_name}
+use Rattle.bl_store.specs.Stored.{Stored, map_in, StandsOn, Carries, KeepsAllBut}
 use Rattle.bl_store.proofs.CarryLemmas.{changes}
 use Rattle.bl_store.proofs.FolderLemmas.{sync_keeps}
 use Rattle.bl_store.proofs.MomentLemmas.{still_stands, sync_stands}
+use Rattle.bl_store.proofs.OtherLemmas.{all_same}
 use Rattle.bl_store.proofs.store.Store.sync.Goals as goal
 
 pub returns-in-Err-clause-held : goal.returns-in-Err-clause-held
@@ -35,6 +36,22 @@ returns-clause-carried g c = λ shown older own synced.
 
 pub returns-clause-reads : goal.returns-clause-reads
 returns-clause-reads g c = λ shown. sync_keeps _ (g.S.Site.disk c.args.site.now) (g.S.Site.disk c.sync.new.site) (c.in_default.ensures.synced shown)
+
+pub returns-in-Err-clause-others : goal.returns-in-Err-clause-others
+returns-in-Err-clause-others g c = λ shown.
+    let old = g.S.Site.disk c.args.site.now in
+    let new = g.S.Site.disk c.sync.new.site in
+    let here : Stored = record { log = c.self.inside.wal; last = c.self.inside.last; now = map_in c.self.inside.map.entries; broken = c.self.inside.broken } in
+    let P : Stored → Type 0 = λ s. KeepsAllBut (log_name s.log.number) old new in
+    subst P c.self.view_is (elim c.in-Err.ensures.causes [
+      | inl failed ↦ (c.in-Err.ensures.frayed shown (ap Err failed)).puts.others
+      | inr memory ↦ all_same (log_name here.log.number) old new (c.in-Err.ensures.keeps shown (ap Err memory)).same
+    ])
+
+pub returns-clause-others : goal.returns-clause-others
+returns-clause-others g c = λ shown.
+    let P : Stored → Type 0 = λ s. KeepsAllBut (log_name s.log.number) (g.S.Site.disk c.args.site.now) (g.S.Site.disk c.sync.new.site) in
+    subst P c.self.view_is (c.in_default.ensures.synced shown).puts.others
 
 pub returns-then-self-clause-cuts : goal.returns-then-self-clause-cuts
 returns-then-self-clause-cuts g c = λ shown sure older own synced carries.

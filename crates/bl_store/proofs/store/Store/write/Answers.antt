@@ -1,7 +1,9 @@
-use Rattle.std.proofs.Common.{ℕ, ◌+◌, ◌∷◌, ◌++◌, [], length, ◌∙◌, ap, subst, refl, inr, true}
-use Rattle.bl_store.specs.Stored.{Stored, map_in, next_batch, StandsOn, Carries, MayHold}
+use Rattle.std.proofs.Common.{ℕ, ◌+◌, ◌∷◌, ◌++◌, [], length, ◌∙◌, ap, subst, refl, inl, inr, true, Err}
+use Rattle.bl_wal.specs.LogFile.{log_name}
+use Rattle.bl_store.specs.Stored.{Stored, map_in, next_batch, StandsOn, Carries, MayHold, KeepsAllBut}
 use Rattle.bl_store.proofs.CarryLemmas.{carried, may_hold, changes, more_follow}
 use Rattle.bl_store.proofs.MomentLemmas.{still_stands_more, append_stands}
+use Rattle.bl_store.proofs.OtherLemmas.{all_same}
 use Rattle.bl_store.proofs.store.Store.write.Goals as goal
 
 pub returns-in-Err-clause-held : goal.returns-in-Err-clause-held
@@ -39,6 +41,27 @@ returns-clause-carried g c = λ shown older own synced.
     carried c.records_are_batches.ensures.next c.names_one.ensures here c.append.new.self (c.self.inside.last + c.from-count.result) (map_in c.put_operations.new.map.entries) c.self.inside.broken
     c.args.batch.now older own synced old new c.append.ensures.number (ap (λ n. c.self.inside.last + n) (c.from-count.ensures ∙ c.count.ensures))
     (c.in_default.ensures.appended shown).puts.others (c.in_default.ensures.holds shown own synced carries.on.holds) c.in_default.ensures.reads c.in_default-put_operations.ensures.put carries)
+
+pub returns-in-Err-clause-others : goal.returns-in-Err-clause-others
+returns-in-Err-clause-others g c = λ shown.
+    let old = g.S.Site.disk c.args.site.now in
+    let new = g.S.Site.disk c.append.new.site in
+    let here : Stored = record { log = c.self.inside.wal; last = c.self.inside.last; now = map_in c.self.inside.map.entries; broken = c.self.inside.broken } in
+    let P : Stored → Type 0 = λ s. KeepsAllBut (log_name s.log.number) old new in
+    subst P c.self.view_is (elim c.in-Err.ensures.causes [
+      | inl failed ↦ (c.in-Err.ensures.torn shown (ap Err failed)).appends.puts.others
+      | inr memory ↦ all_same (log_name here.log.number) old new (c.in-Err.ensures.memory shown (ap Err memory))
+    ])
+
+pub returns-in-Err-put_operations-clause-others : goal.returns-in-Err-put_operations-clause-others
+returns-in-Err-put_operations-clause-others g c = λ shown.
+    let P : Stored → Type 0 = λ s. KeepsAllBut (log_name s.log.number) (g.S.Site.disk c.args.site.now) (g.S.Site.disk c.append.new.site) in
+    subst P c.self.view_is (c.in_default.ensures.appended shown).puts.others
+
+pub returns-clause-others : goal.returns-clause-others
+returns-clause-others g c = λ shown.
+    let P : Stored → Type 0 = λ s. KeepsAllBut (log_name s.log.number) (g.S.Site.disk c.args.site.now) (g.S.Site.disk c.append.new.site) in
+    subst P c.self.view_is (c.in_default.ensures.appended shown).puts.others
 
 pub returns-then-self-clause-cuts : goal.returns-then-self-clause-cuts
 returns-then-self-clause-cuts g c = λ shown sure older own synced carries.
