@@ -1,4 +1,5 @@
-//! Tests that go through all crates: scripts over a folder in memory, with calls that fail; logs; blob files.
+//! Tests that go through all crates: scripts and stores over a folder in memory, with calls that fail and power cuts;
+//! logs, manifests and blob files.
 #![tactic(auto)]
 
 #[cfg(test)]
@@ -9,3 +10,5 @@ mod logs;
 mod manifests;
 #[cfg(test)]
 mod scripts;
+#[cfg(test)]
+mod stores;
