@@ -146,6 +146,15 @@ impl Batch {
         self.operations.as_slice()
     }
 
+    /// The operations, in their order, each in bounds. They are moved out: no key and no value is copied.
+    pub fn into_operations(self) -> Vec<Operation>
+        ensures value { result.items ≡ self }
+        ensures bounds { AreOperations self }
+    {
+        let Batch { operations, .. } = self;
+        operations
+    }
+
     /// Room for its spelling, and for no more than a few bytes beyond.
     pub(crate) fn room(&self) -> usize {
         let mut room = 12usize;
