@@ -27,7 +27,9 @@ impl Model for Octets {
 }
 
 impl Octets {
-    /// A copy of these bytes; `OutOfMemory` where there is no room for it.
+    /// A copy of these bytes.
+    ///
+    /// Errors: `OutOfMemory` alone, where there is no room for it.
     pub fn from_slice(alloc: Global, bytes: &[u8]) -> Result<Octets, CodeErr>
         ensures { IfOk result (λ octets. octets ≡ bytes.now) }
     {

@@ -10,7 +10,8 @@ use std::cmp::Ordering;
 const NUMBER_BYTES: usize = 8;
 
 /// The order of two internal keys, as RocksDB's internal comparator has it: user keys ascend by bytes,
-/// and for one user key the numbers behind it descend, so the newest stands first.
+/// and for one user key the numbers behind it descend, so the newest stands first. Each key has at least
+/// the 8 bytes of its number.
 pub fn key_order(a: &[u8], b: &[u8]) -> Ordering
     requires first { 8 ≤ length a.now }
     requires second { 8 ≤ length b.now }

@@ -10,6 +10,8 @@ use byteorder::{ByteOrder, LittleEndian};
 const VARINT_ROOM: usize = 10;
 
 /// Appends the 2 bytes of `value`, the lowest first.
+///
+/// Errors: `OutOfMemory` alone, after which `to` is as it was.
 #[tactic(auto, unfolding(crate::specs::Numbers::fixed16))]
 pub fn put_fixed16(to: &mut Vec<u8>, value: u16) -> Result<(), CodeErr>
     ensures ok { OnOk result (to.new.items ≡ to.old.items ++ fixed16 value) }
@@ -22,6 +24,8 @@ pub fn put_fixed16(to: &mut Vec<u8>, value: u16) -> Result<(), CodeErr>
 }
 
 /// Appends the 4 bytes of `value`, the lowest first.
+///
+/// Errors: `OutOfMemory` alone, after which `to` is as it was.
 #[tactic(auto, unfolding(crate::specs::Numbers::fixed32))]
 pub fn put_fixed32(to: &mut Vec<u8>, value: u32) -> Result<(), CodeErr>
     ensures ok { OnOk result (to.new.items ≡ to.old.items ++ fixed32 value) }
@@ -34,6 +38,8 @@ pub fn put_fixed32(to: &mut Vec<u8>, value: u32) -> Result<(), CodeErr>
 }
 
 /// Appends the 8 bytes of `value`, the lowest first.
+///
+/// Errors: `OutOfMemory` alone, after which `to` is as it was.
 #[tactic(auto, unfolding(crate::specs::Numbers::fixed64))]
 pub fn put_fixed64(to: &mut Vec<u8>, value: u64) -> Result<(), CodeErr>
     ensures ok { OnOk result (to.new.items ≡ to.old.items ++ fixed64 value) }
@@ -46,6 +52,8 @@ pub fn put_fixed64(to: &mut Vec<u8>, value: u64) -> Result<(), CodeErr>
 }
 
 /// Appends the shortest varint of `value`, 1 to 5 bytes.
+///
+/// Errors: `OutOfMemory` alone, after which `to` is as it was.
 pub fn put_varint32(to: &mut Vec<u8>, value: u32) -> Result<(), CodeErr>
     ensures ok { OnOk result (to.new.items ≡ to.old.items ++ varint32 value) }
     ensures err { OnErr result (to.new.items ≡ to.old.items) }
@@ -54,6 +62,8 @@ pub fn put_varint32(to: &mut Vec<u8>, value: u32) -> Result<(), CodeErr>
 }
 
 /// Appends the shortest varint of `value`, 1 to 10 bytes.
+///
+/// Errors: `OutOfMemory` alone, after which `to` is as it was.
 pub fn put_varint64(to: &mut Vec<u8>, value: u64) -> Result<(), CodeErr>
     ensures ok { OnOk result (to.new.items ≡ to.old.items ++ varint64 value) }
     ensures err { OnErr result (to.new.items ≡ to.old.items) }
@@ -71,7 +81,9 @@ pub fn put_varint64(to: &mut Vec<u8>, value: u64) -> Result<(), CodeErr>
     Ok(())
 }
 
-/// Appends the number of bytes as a varint, and then the bytes.
+/// Appends the number of bytes, which is below 2^32, as a varint, and then the bytes.
+///
+/// Errors: `OutOfMemory` alone, after which `to` is as it was.
 pub fn put_slice(to: &mut Vec<u8>, bytes: &[u8]) -> Result<(), CodeErr>
     requires { length bytes.now < 2 ^ 32 }
     ensures ok { OnOk result (to.new.items ≡ to.old.items ++ slice bytes.now) }

@@ -67,6 +67,7 @@ pub enum BatchErr {
     Value(u64),
     /// The batch has 4,294,967,295 operations.
     Many,
+    /// Memory ran out.
     OutOfMemory,
 }
 
@@ -89,7 +90,10 @@ impl Batch {
         }
     }
 
-    /// A put follows. Tested in this order: the key's length, the value's, and the count.
+    /// A put follows.
+    ///
+    /// Errors: the first of `Key`, `Value` and `Many` that applies, and none that does not; `OutOfMemory`.
+    /// In each case the batch is as it was.
     pub fn put(&mut self, key: &[u8], value: &[u8]) -> Result<(), BatchErr>
         ensures ok { OnOk result (self.new ≡ self.old ++ put_of key.now value.now ∷ []) }
         ensures err { OnErr result (self.new ≡ self.old) }
@@ -98,7 +102,10 @@ impl Batch {
         self.add(key, Some(value))
     }
 
-    /// A deletion follows. The key's length is tested first, and then the count.
+    /// A deletion follows.
+    ///
+    /// Errors: the first of `Key` and `Many` that applies, and none that does not; `OutOfMemory`. In each
+    /// case the batch is as it was.
     pub fn del(&mut self, key: &[u8]) -> Result<(), BatchErr>
         ensures ok { OnOk result (self.new ≡ self.old ++ deletion_of key.now ∷ []) }
         ensures err { OnErr result (self.new ≡ self.old) }
@@ -137,6 +144,15 @@ impl Batch {
         ensures bounds { AreOperations self.now }
     {
         self.operations.as_slice()
+    }
+
+    /// The operations, in their order, each in bounds. They are moved out: no key and no value is copied.
+    pub fn into_operations(self) -> Vec<Operation>
+        ensures value { result.items ≡ self }
+        ensures bounds { AreOperations self }
+    {
+        let Batch { operations, .. } = self;
+        operations
     }
 
     /// Room for its spelling, and for no more than a few bytes beyond.

@@ -64,6 +64,7 @@ pub enum BadKey {
     Long,
     /// The kind's byte is that of no kind.
     Kind,
+    /// Memory ran out.
     OutOfMemory,
 }
 
@@ -140,6 +141,8 @@ impl PartialOrd for InternalKey {
 }
 
 /// A key as LevelDB and RocksDB write it: the user key, and a fixed64 of sequence and kind.
+///
+/// Errors: `OutOfMemory` alone.
 pub fn encode_key(alloc: Global, key: &InternalKey) -> Result<Octets, EntryErr>
     ensures { IfOk result (λ bytes. bytes ≡ key_bytes key.now) }
 {
@@ -150,7 +153,10 @@ pub fn encode_key(alloc: Global, key: &InternalKey) -> Result<Octets, EntryErr>
     Ok(Octets::from_vec(bytes))
 }
 
-/// The key that all of these bytes spell; tested in the order of the refusals.
+/// The key that all of these bytes spell.
+///
+/// Errors: the first of `Short`, `Long` and `Kind` that applies where the bytes are no key, and only
+/// there; `OutOfMemory`.
 pub fn decode_key(alloc: Global, bytes: &[u8]) -> Result<InternalKey, BadKey>
     ensures found { IfOk result (λ key. IsKey key × (bytes.now ≡ key_bytes key)) }
     ensures all { (key : Key) → IsKey key → bytes.now ≡ key_bytes key → DecodesKey result (Ok key) }

@@ -79,7 +79,9 @@ impl LogReader {
         }
     }
 
-    /// More bytes of the log follow those fed so far.
+    /// More bytes of the log follow those fed so far. The reader is not closed.
+    ///
+    /// Errors: `OutOfMemory` alone, after which the reader is as it was.
     pub fn feed(&mut self, bytes: &[u8]) -> Result<(), LogErr>
         requires { self.old.closed ≡ false }
         ensures reads { OnOk result ((fed : List ℕ) (found : List (List ℕ × ℕ)) → HasRead fed found self.old → HasRead (fed ++ bytes.now) found self.new) }
@@ -96,7 +98,7 @@ impl LogReader {
         Ok(())
     }
 
-    /// No bytes follow.
+    /// No bytes follow: `next` answers no `NeedMore` from now on.
     pub fn close(&mut self)
         ensures reads { (fed : List ℕ) (found : List (List ℕ × ℕ)) → HasRead fed found self.old → HasRead fed found self.new }
         ensures closed { self.new ≡ record self.old { closed = true } }
@@ -106,6 +108,8 @@ impl LogReader {
 
     /// The next record; `NeedMore` exactly where the reader is not closed and the bytes fed don't decide the
     /// fragment behind the last record; or where and why reading ends.
+    ///
+    /// Errors: `OutOfMemory` alone, after which the reader is as it was.
     pub fn next(&mut self) -> Result<LogNext, LogErr>
         ensures answers { IfOk result (λ n. (fed : List ℕ) (found : List (List ℕ × ℕ)) → HasRead fed found self.old → Answers n fed found self.new) }
         ensures closed { self.new.closed ≡ self.old.closed }

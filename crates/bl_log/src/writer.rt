@@ -18,6 +18,7 @@ pub(crate) const HEAD: usize = 7;
 /// Why a call failed. It changed nothing.
 #[derive(Clone, Copy, Debug, Drop, PartialEq, Eq)]
 pub enum LogErr {
+    /// Memory ran out.
     OutOfMemory,
 }
 
@@ -117,8 +118,9 @@ impl LogWriter {
         LogWriter { place: 0 }
     }
 
-    /// The bytes that append a record to the log, at whose end the writer then stands. A writer that
-    /// ran out of memory stands where it stood.
+    /// The bytes that append a record to the log, at whose end the writer then stands.
+    ///
+    /// Errors: `OutOfMemory` alone, after which the writer stands where it stood.
     pub fn frame(&mut self, alloc: Global, payload: &[u8]) -> Result<Octets, LogErr>
         ensures layout { IfOk result (λ bytes. bytes ≡ layout self.old payload.now) }
         ensures moved { IfOk result (λ bytes. self.new ≡ (self.old + length bytes) % 32768) }

@@ -19,6 +19,8 @@ pub fn parse_current(bytes: &[u8]) -> Option<u64>
 }
 
 /// The text of CURRENT that names the manifest of this number, from 1 to 10^15 - 1.
+///
+/// Errors: `OutOfMemory` alone.
 pub fn print_current(alloc: Global, number: u64) -> Result<Octets, NameErr>
     requires { IsNumber number }
     ensures { IfOk result (λ text. text ≡ current_text number) }

@@ -28,6 +28,7 @@ pub enum FileName {
 /// Why nothing was printed.
 #[derive(Clone, Copy, Debug, PartialEq, Eq)]
 pub enum NameErr {
+    /// Memory ran out.
     OutOfMemory,
 }
 
@@ -63,6 +64,8 @@ pub fn parse_name(name: &str) -> Option<FileName>
 }
 
 /// The name of this file, whose number is from 1 to 10^15 - 1.
+///
+/// Errors: `OutOfMemory` alone.
 pub fn print_name(alloc: Global, name: &FileName) -> Result<String, NameErr>
     requires { HasNumber name.now }
     ensures { IfOk result (λ text. string_bytes text ≡ name_of name.now) }

@@ -15,7 +15,8 @@ fn is_wide(text: &[u8]) -> bool
     }
 }
 
-/// The number that these digits spell, in six digits with zeros or in more without a leading zero.
+/// The number that these digits spell, in six digits with zeros or in more without a leading zero; None
+/// exactly for any other text.
 fn number_in(text: &[u8]) -> Option<u64>
     ensures found { IfSome result (λ n. IsNumber n × (text.now ≡ digits n)) }
     ensures all { (n : ℕ) → IsNumber n → text.now ≡ digits n → result ≡ Some n }
@@ -33,7 +34,7 @@ fn number_in(text: &[u8]) -> Option<u64>
     if number == 0 { None } else { Some(number) }
 }
 
-/// The number that stands before this ending, and behind nothing.
+/// The number that stands before this ending, and behind nothing; None exactly where none stands so.
 pub fn number_before(text: &[u8], ending: &[u8]) -> Option<u64>
     ensures found { IfSome result (λ n. IsNumber n × (text.now ≡ digits n ++ ending.now)) }
     ensures all { (n : ℕ) → IsNumber n → text.now ≡ digits n ++ ending.now → result ≡ Some n }
@@ -42,7 +43,7 @@ pub fn number_before(text: &[u8], ending: &[u8]) -> Option<u64>
     number_in(digits)
 }
 
-/// The number of the manifest of this name.
+/// The number of the manifest of this name; None exactly for any other name.
 pub fn manifest_number(text: &[u8]) -> Option<u64>
     ensures found { IfSome result (λ n. IsNumber n × (text.now ≡ manifest_name n)) }
     ensures all { (n : ℕ) → IsNumber n → text.now ≡ manifest_name n → result ≡ Some n }

@@ -94,6 +94,8 @@ pub enum Refusal {
 pub enum Parsed {
     /// Nothing: it has no words, or begins with `#`.
     Nothing,
+    /// Nothing, since it is refused for this reason.
     Refused(Refusal),
+    /// This command.
     Go(Command),
 }

@@ -1,12 +1,11 @@
 //! Replaying a log.
 
 ghost use Rattle.std.specs.Prelude.{◌≡◌, ℕ, ◌+◌, ◌<◌, ◌≤◌, ◌^◌, List, [], ◌∷◌, ◌++◌, length, Bool, Err, IfOk, IfErr, OnOk, IsErrOf, string_bytes, IsTrue, true, false, None, Some, ◌⊎◌};
-ghost use Rattle.std.specs.Option.{option_copied};
 ghost use Rattle.bl_site.specs.Disk.{Name, MayLeave, folder_of};
 ghost use Rattle.bl_site.specs.Calls.{KeepsDisk, Elapses};
 ghost use Rattle.bl_site.specs.Causes.{Rose};
 ghost use Rattle.bl_names.specs.Names.{IsNumber};
-ghost use Rattle.bl_entry.specs.Batches.{AreOperations};
+ghost use Rattle.bl_entry.specs.Batches.{IsOperation};
 ghost use Rattle.bl_wal.specs.Entries.{entry, entries_from};
 ghost use Rattle.bl_wal.specs.LogFile.{log_name};
 ghost use Rattle.bl_wal.specs.Causes.{IsCause};
@@ -16,7 +15,7 @@ ghost use Rattle.bl_wal.specs.Progress.{Progress, FeedsMore};
 use crate::entries::Entries;
 use crate::error::WalErr;
 use bl_code::Octets;
-use bl_entry::{BadBatch, Batch, Entry, InternalKey, Kind, batches_join, decode_batch};
+use bl_entry::{BadBatch, Batch, Entry, InternalKey, Kind, Operation, batches_join, decode_batch};
 use bl_log::{LogNext, LogReader, found_records_are_first, placed_records_are_records};
 use bl_names::{FileName, print_name};
 use bl_site::Site;
@@ -42,24 +41,21 @@ fn buffer_of(alloc: Global, size: usize) -> Result<Vec<u8>, WalErr>
     Ok(vec![in alloc; 0; size]?)
 }
 
-// The entry of one operation.
-fn entry_of(alloc: Global, user: &[u8], seq: u64, put: Option<&[u8]>) -> Result<Entry, WalErr>
-    requires some { 1 ≤ length user.now }
-    requires key { length user.now ≤ 65535 }
+// The entry of one operation, whose key and value are moved.
+fn entry_of(alloc: Global, operation: Operation, seq: u64) -> Entry
+    requires bounds { IsOperation operation }
     requires seq { seq < 2 ^ 56 }
-    ensures entry { IfOk result (λ e. e ≡ entry user.now seq (option_copied put.entry)) }
-    ensures memory { IfErr result (λ e. e ≡ WalErr.OutOfMemory) }
+    ensures { result ≡ entry operation.key seq operation.put }
 {
-    let user = Octets::from_slice(alloc, user)?;
-    let kind = match put {
-        Some(_) => Kind::Value,
-        None => Kind::Deletion,
+    let Operation { key: user, put } = operation;
+    let (kind, value) = match put {
+        Some(value) => (Kind::Value, value),
+        None => (Kind::Deletion, Octets::from_vec(Vec::new(alloc))),
     };
-    let value = Octets::from_slice(alloc, put.unwrap_or(&[]))?;
-    Ok(Entry {
+    Entry {
         key: InternalKey { user, seq, kind },
         value,
-    })
+    }
 }
 
 // The entries of a batch follow.
@@ -67,20 +63,16 @@ fn put_entries(
     alloc: Global,
     entries: &mut Vec<Entry>,
     first: u64,
-    batch: &Batch,
+    batch: Batch,
 ) -> Result<(), WalErr>
-    requires bounds { AreOperations batch.now }
-    requires room { 1 ≤ length batch.now → first + length batch.now ≤ 2 ^ 56 }
-    ensures put { OnOk result (entries.new.items ≡ entries.old.items ++ entries_from first batch.now) }
+    requires { 1 ≤ length batch → first + length batch ≤ 2 ^ 56 }
+    ensures put { OnOk result (entries.new.items ≡ entries.old.items ++ entries_from first batch) }
     ensures memory { IfErr result (λ e. e ≡ WalErr.OutOfMemory) }
 {
-    for place in 0..batch.count() {
-        let Some(user) = batch.key_at(place) else {
-            unreachable!();
-        };
-        let put = batch.value_at(place);
-        let entry = entry_of(alloc, user, first + u64::from(place), put)?;
-        entries.push(entry)?;
+    let mut seq = first;
+    for operation in batch.into_operations() {
+        entries.push(entry_of(alloc, operation, seq))?;
+        seq += 1;
     }
     Ok(())
 }
@@ -103,8 +95,9 @@ fn take_record(
     if first == 0 || first - 1 != *last {
         return Ok(false);
     }
-    put_entries(alloc, entries, first, &batch)?;
-    *last += u64::from(batch.count());
+    let count = u64::from(batch.count());
+    put_entries(alloc, entries, first, batch)?;
+    *last += count;
     Ok(true)
 }
 

@@ -1,6 +1,7 @@
-use Rattle.std.proofs.Common.{◌≡◌, ◌++◌, take}
+use Rattle.std.proofs.Common.{◌≡◌, ◌+◌, ◌++◌, length}
 use Rattle.bl_wal.specs.Entries.{entries_from}
 use Rattle.bl_wal.proofs.replayed.put_entries.Given as goal
 
-abbrev pub invariant-loop-place : goal.invariant-loop-place
-invariant-loop-place l = l.entries.items ≡ l.fn.entries.items ++ entries_from l.first (take l.place l.batch)
+abbrev pub invariant-loop-operation : goal.invariant-loop-operation
+invariant-loop-operation l =
+    (l.seq ≡ l.first + length l.yielded) × (l.entries.items ≡ l.fn.entries.items ++ entries_from l.first l.yielded)

@@ -25,7 +25,7 @@ pub returns-clause-taken : goal.returns-clause-taken
 returns-clause-taken c =
     let b : Batch = record { first = c.in-Ok.read.0; operations = c.in-Ok.read.1 } in
     let first : b.first ≡ c.args.last.now + 1 = omega (arith, c.if-first-last.false, c.if-first-eq0.false) in
-    let count : c.from.result ≡ length b.operations = c.from.ensures ∙ c.count.ensures in (
+    let count : c.from-count.result ≡ length b.operations = c.from-count.ensures ∙ c.count.ensures in (
       b,
       next_read c.args.payload.now c.args.last.now b c.in-Ok.ensures.exact first ∙ ap (λ n. Some (b ∷ [], c.args.last.now + n)) (sym count),
       one_batch c.args.entries.now.items c.put_entries.new.entries.items b c.in_ok-put_entries.ensures.put,
