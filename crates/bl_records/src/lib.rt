@@ -1,0 +1,10 @@
+//! The records of a log file that stands in a folder, read one after another, a piece of the file at a time.
+#![tactic(auto)]
+
+mod error;
+mod laws;
+mod reader;
+
+pub use error::ReadErr;
+pub use laws::found_records_are_first_of_the_file;
+pub use reader::{NextRecord, RecordReader};
