@@ -1,5 +1,5 @@
 -- A file that is read, step by step.
-use Rattle.std.proofs.Common.{◌≡◌, inl, inr, ℕ, ◌+◌, ◌-◌, ◌%◌, ◌^◌, ◌<◌, min, Bool, true, false, List, [], ◌∷◌, ◌++◌, length, take, drop, Option, Some, None, Result, Ok, Err, refl, sym, ◌∙◌, ap, subst, arith}
+use Rattle.std.proofs.Common.{◌≡◌, inl, inr, ℕ, ◌+◌, ◌-◌, ◌%◌, ◌^◌, ◌<◌, min, Bool, true, false, List, [], ◌∷◌, ◌++◌, length, take, drop, Option, Some, None, Result, Ok, Err, refl, sym, ◌∙◌, ap, subst, arith, append_assoc}
 use Rattle.std.proofs.Math.Seq.{take-add}
 use Rattle.std.proofs.lemmas.List.{take_all, take-append-drop}
 use Rattle.std.specs.Prelude.{MatchOption, unwrap_or}
@@ -103,16 +103,37 @@ wants_none n new old ended end some more again =
     let wrong : NeedMore ≡ End end.0 end.1 = sym more ∙ same in
     cc wrong
 
-pub finds_next : (name : Name) (file : Option (List ℕ)) (offset : ℕ) (old new : Reading) (payload : List ℕ) → new.closed ≡ old.closed
+-- what a reader has found are the first records, whatever follows
+abbrev pub FoundFirst : Type 0
+FoundFirst = (fed : List ℕ) (found : List (List ℕ × ℕ)) (reading : Reading) → HasRead fed found reading → (more : List ℕ) → (rest : List (List ℕ × ℕ)) × (placed_records (fed ++ more) ≡ found ++ rest)
+
+not_nothing : (found : List (List ℕ × ℕ)) (x : List ℕ × ℕ) (rest : List (List ℕ × ℕ)) → placed_records [] ≡ found ++ (x ∷ rest) → ⊥
+unfolding walk step_at
+not_nothing [] x rest e = cc e
+not_nothing (y ∷ more) x rest e = cc e
+
+with_file : (file : Option (List ℕ)) (found : List (List ℕ × ℕ)) (payload : List ℕ) (reader : FileReading) (behind : ℕ) (rest : List (List ℕ × ℕ)) → HasFound file (found ++ (payload, behind) ∷ []) reader
+    → reader.reading.place ≡ behind % 2 ^ 64 → placed_records (all_of file) ≡ found ++ ((payload, behind) ∷ rest) → FindsNext file found payload reader
+with_file None found payload reader behind rest finds stands split = absurd (not_nothing found (payload, behind) rest split)
+with_file (Some bytes) found payload reader behind rest finds stands split = record {
+  behind = behind;
+  finds = finds;
+  stands = stands;
+  bytes = bytes;
+  there = refl;
+  rest = rest;
+  split = split;
+}
+
+finds_next : FoundFirst → (name : Name) (file : Option (List ℕ)) (offset : ℕ) (old new : Reading) (payload : List ℕ) → new.closed ≡ old.closed
     → ((fed : List ℕ) (found : List (List ℕ × ℕ)) → HasRead fed found old → FindsIn payload fed found new)
     → (found : List (List ℕ × ℕ)) → HasFound file found (reading_at name offset old) → FindsNext file found payload (reading_at name offset new)
-finds_next name file offset old new payload same finds found h =
-    let f = finds (take offset (all_of file)) found h.reads in
-    record {
-      behind = f.place;
-      finds = record { reads = f.reads; whole = λ closed. h.whole (sym same ∙ closed) };
-      stands = f.stands;
-    }
+finds_next law name file offset old new payload same finds found h =
+    let fed = take offset (all_of file) in
+    let f = finds fed found h.reads in
+    let first = law fed (found ++ (payload, f.place) ∷ []) new f.reads (drop offset (all_of file)) in
+    with_file file found payload (reading_at name offset new) f.place first.0 (record { reads = f.reads; whole = λ closed. h.whole (sym same ∙ closed) }) f.stands
+    (ap placed_records (sym (take-append-drop offset (all_of file))) ∙ first.1 ∙ append_assoc found ((payload, f.place) ∷ []) first.0)
 
 -- nothing decides where reading ends before a byte is fed
 undecided : IsDecided [] → ⊥
@@ -151,11 +172,11 @@ ends_behind name file offset reading found place cause h end = elim end.last [
 abbrev pub AnswersOf : LogNext → Reading → Reading → Type 0
 AnswersOf n old new = (fed : List ℕ) (found : List (List ℕ × ℕ)) → HasRead fed found old → Tells n fed found new
 
-pub next_found : (name : Name) (file : Option (List ℕ)) (offset : ℕ) (old new : Reading) (n : LogNext) (payload : List ℕ) → n ≡ Found payload → AnswersOf n old new → new.closed ≡ old.closed
+pub next_found : FoundFirst → (name : Name) (file : Option (List ℕ)) (offset : ℕ) (old new : Reading) (n : LogNext) (payload : List ℕ) → n ≡ Found payload → AnswersOf n old new → new.closed ≡ old.closed
     → (found : List (List ℕ × ℕ)) → HasFound file found (reading_at name offset old) → FindsNext file found payload (reading_at name offset new)
-next_found name file offset old new n payload is answers same =
+next_found law name file offset old new n payload is answers same =
     let P : LogNext → Type 0 = λ m. AnswersOf m old new in
-    finds_next name file offset old new payload same (subst P is answers)
+    finds_next law name file offset old new payload same (subst P is answers)
 
 pub more_wanted : (name : Name) (file : Option (List ℕ)) (offset : ℕ) (old new : Reading) (n : LogNext) → n ≡ NeedMore → AnswersOf n old new → new.closed ≡ old.closed → Keeps name file offset offset old new
 more_wanted name file offset old new n is answers same =
@@ -170,10 +191,3 @@ end_told name file offset old new n place cause is answers same found h =
     let ends = subst P is answers in
     let kept = read_on name file offset old new same (λ fed found r. (ends fed found r).0) found h in
     (kept, ends_behind name file offset new found place cause kept (ends (take offset (all_of file)) found h.reads).1)
-
--- the records found are the first ones of the file
-pub first_of_file : ((fed : List ℕ) (found : List (List ℕ × ℕ)) (reading : Reading) → HasRead fed found reading → (more : List ℕ) → (rest : List (List ℕ × ℕ)) × (placed_records (fed ++ more) ≡ found ++ rest))
-    → (bytes : List ℕ) (found : List (List ℕ × ℕ)) (reader : FileReading) → HasFound (Some bytes) found reader → (rest : List (List ℕ × ℕ)) × (placed_records bytes ≡ found ++ rest)
-first_of_file law bytes found reader h =
-    let first = law (take reader.offset bytes) found reader.reading h.reads (drop reader.offset bytes) in
-    (first.0, ap placed_records (sym (take-append-drop reader.offset bytes)) ∙ first.1)

@@ -18,11 +18,15 @@ pub record HasFound (file : Option (List ℕ)) (found : List (List ℕ × ℕ)) 
   pub reads : HasRead (take reader.offset (unwrap_or file [])) found reader.reading
   pub whole : reader.reading.closed ≡ true → (bytes : List ℕ) × (file ≡ Some bytes) × (length bytes ≤ reader.offset)
 
--- the next record is found, behind which the reader stands
+-- the file is there, and behind the records found this one is its next, behind which the reader stands
 pub record FindsNext (file : Option (List ℕ)) (found : List (List ℕ × ℕ)) (payload : List ℕ) (reader : FileReading) : Type 0 where
   pub behind : ℕ
   pub finds : HasFound file (found ++ (payload, behind) ∷ []) reader
   pub stands : reader.reading.place ≡ behind % 2 ^ 64
+  pub bytes : List ℕ
+  pub there : file ≡ Some bytes
+  pub rest : List (List ℕ × ℕ)
+  pub split : placed_records bytes ≡ found ++ ((payload, behind) ∷ rest)
 
 -- the file is there, its records are these, and its reading ends at this place, modulo 2 ^ 64
 pub record EndsBehind (file : Option (List ℕ)) (found : List (List ℕ × ℕ)) (place : ℕ) : Type 0 where

@@ -2,9 +2,7 @@
 #![tactic(auto)]
 
 mod error;
-mod laws;
 mod reader;
 
 pub use error::ReadErr;
-pub use laws::found_records_are_first_of_the_file;
 pub use reader::{NextRecord, RecordReader};

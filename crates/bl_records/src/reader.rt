@@ -10,7 +10,7 @@ ghost use Rattle.bl_records.specs.Answers.{Answers};
 
 use crate::error::ReadErr;
 use bl_code::Octets;
-use bl_log::{LogNext, LogReader};
+use bl_log::{LogNext, LogReader, found_records_are_first};
 use bl_site::Site;
 use std::alloc::Global;
 use std::marker::Model;
@@ -97,7 +97,7 @@ fn read_next<S: Site>(
     requires { 0 < length buffer.old }
     ensures answers { S.shows → IfOk result (λ next. (found : List (List ℕ × ℕ)) → HasFound (folder_of (S.disk site.old) name.now) found (reading_at name.now offset.old reader.old)
         → Answers next (folder_of (S.disk site.old) name.now) found (reading_at name.now offset.new reader.new)) }
-    ensures absent { S.shows → result ≡ Ok NextRecord.Absent → folder_of (S.disk site.old) name.now ≡ None }
+    ensures absent { S.shows → IfOk result (λ next. next ≡ NextRecord.Absent → folder_of (S.disk site.old) name.now ≡ None) }
     ensures err { S.shows → OnErr result ((found : List (List ℕ × ℕ)) → HasFound (folder_of (S.disk site.old) name.now) found (reading_at name.now offset.old reader.old)
         → HasFound (folder_of (S.disk site.old) name.now) found (reading_at name.now offset.new reader.new)) }
     ensures ends { (place : ℕ) → result ≡ Ok (NextRecord.End place) → (cause : EndCause) × (reader.new.ended ≡ Some (place, cause)) }
@@ -110,6 +110,7 @@ fn read_next<S: Site>(
     ensures tell_faults { S.tell_faults site.new ≡ S.tell_faults site.old }
     ensures changes { S.changes site.new ≡ S.changes site.old }
 {
+    found_records_are_first();
     'pieces: for _piece in 0..u64::MAX {
         match reader.next()? {
             LogNext::Found(payload) => return Ok(NextRecord::Record(payload)),
@@ -151,7 +152,7 @@ impl RecordReader {
     pub fn next<S: Site>(&mut self, site: &mut S) -> Result<NextRecord, ReadErr>
         ensures answers { S.shows → IfOk result (λ next. (found : List (List ℕ × ℕ)) → HasFound (folder_of (S.disk site.old) self.old.name) found self.old
             → Answers next (folder_of (S.disk site.old) self.old.name) found self.new) }
-        ensures absent { S.shows → result ≡ Ok NextRecord.Absent → folder_of (S.disk site.old) self.old.name ≡ None }
+        ensures absent { S.shows → IfOk result (λ next. next ≡ NextRecord.Absent → folder_of (S.disk site.old) self.old.name ≡ None) }
         ensures err { S.shows → OnErr result ((found : List (List ℕ × ℕ)) → HasFound (folder_of (S.disk site.old) self.old.name) found self.old
             → HasFound (folder_of (S.disk site.old) self.old.name) found self.new) }
         ensures name { self.new.name ≡ self.old.name }

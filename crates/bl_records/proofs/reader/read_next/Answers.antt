@@ -2,7 +2,7 @@ use Rattle.std.proofs.Common.{◌≡◌, ◌∙◌, ap, arith}
 use Rattle.bl_site.specs.Disk.{Disk, folder_of}
 use Rattle.bl_log.specs.Reading.{Reading}
 use Rattle.bl_records.proofs.FoundLemmas.{next_found, more_wanted, end_told, piece_fed, on_err, stays_found, wants_none}
-use Rattle.bl_records.proofs.QuietCalls.{elapses_then, leaves_old, keeps_then}
+use Rattle.bl_records.proofs.QuietCalls.{elapses_then, keeps_then}
 use Rattle.bl_records.proofs.reader.read_next.Goals as goal
 
 pub returns-in_err-payload-clause-err : goal.returns-in_err-payload-clause-err
@@ -12,7 +12,7 @@ returns-in_err-payload-clause-err g c = λ shown.
 
 pub returns-in-Found-clause-answers : goal.returns-in-Found-clause-answers
 returns-in-Found-clause-answers g c = λ shown found h.
-    next_found c.args.name.now (folder_of (g.S.Site.disk c.args.site.now) c.args.name.now) c.pieces.offset c.pieces.reader c.next.new.self c.in_ok-payload.field-0 c.in-Found.payload c.in-Found.is c.in_ok-payload.ensures.answers c.next.ensures.closed
+    next_found c.found_records_are_first.ensures c.args.name.now (folder_of (g.S.Site.disk c.args.site.now) c.args.name.now) c.pieces.offset c.pieces.reader c.next.new.self c.in_ok-payload.field-0 c.in-Found.payload c.in-Found.is c.in_ok-payload.ensures.answers c.next.ensures.closed
     found (c.pieces.invariant.found shown found h)
 
 pub returns-in-End-clause-answers : goal.returns-in-End-clause-answers
@@ -54,8 +54,8 @@ pieces-preserved g c =
       stays = λ shown. keeps_then site.disk site.may_be site.certain c.args.site.now c.pieces.site c.feed_piece.new.site (c.pieces.invariant.stays shown) (fed.stays shown);
       told = λ shown. fed.told shown ∙ c.pieces.invariant.told shown;
       time = λ shown.
-          elapses_then site.clock site.left_since c.args.site.now c.pieces.site c.feed_piece.new.site _ _ (c.pieces.invariant.time shown) (fed.time shown)
-          (leaves_old site.disk site.may_be site.certain site.told c.args.site.now c.pieces.site (c.pieces.invariant.stays shown) (c.pieces.invariant.told shown));
+          elapses_then site.disk site.may_be site.certain site.told site.clock site.left_since c.args.site.now c.pieces.site c.feed_piece.new.site (c.pieces.invariant.stays shown) (c.pieces.invariant.told shown)
+          (c.pieces.invariant.time shown) (fed.time shown);
       later = omega (arith, fed.later, c.pieces.invariant.later);
       tell_faults = fed.tell_faults ∙ c.pieces.invariant.tell_faults;
       changes = fed.changes ∙ c.pieces.invariant.changes;
