@@ -113,6 +113,7 @@ impl LogReader {
     pub fn next(&mut self) -> Result<LogNext, LogErr>
         ensures answers { IfOk result (λ n. (fed : List ℕ) (found : List (List ℕ × ℕ)) → HasRead fed found self.old → Answers n fed found self.new) }
         ensures closed { self.new.closed ≡ self.old.closed }
+        ensures open { result ≡ Ok LogNext.NeedMore → self.old.closed ≡ false }
         ensures ends { (place : ℕ) (cause : EndCause) → result ≡ Ok (LogNext.End place cause) → self.new.ended ≡ Some (place, cause) }
         ensures again { IfSome self.old.ended (λ end. (result ≡ Ok (LogNext.End end.0 end.1)) × (self.new ≡ self.old)) }
         ensures err { OnErr result (self.new ≡ self.old) }

@@ -1,7 +1,7 @@
 -- Calls, one after the other: time goes on, and what a cut leaves during each of them it leaves during both.
 use Rattle.std.proofs.Common.{◌≡◌, ◌⊎◌, inl, inr, ⊎_elim, ℕ, List, refl, subst, sym, ◌∙◌, arith}
 use Rattle.bl_site.specs.Disk.{Name, Disk, Cut, IsCut, MayLeave}
-use Rattle.bl_site.specs.Calls.{Creates, Appends, AppendsAny, Syncs, Frays, DoneOrNot, MayDuring, InDoubt, FollowsFile, Elapses, KeepsDisk}
+use Rattle.bl_site.specs.Calls.{Creates, Appends, AppendsAny, Syncs, Frays, DoneOrNot, MayDuring, InDoubt, FollowsFile, Elapses}
 use Rattle.bl_manifest.specs.Writing.{MakesPartly, AppendsPartly, AppendsInDoubt}
 use Rattle.bl_manifest.proofs.WritingLemmas.{appended_synced, sync_torn, partly_handed, partly_synced, partly_torn, made_empty, made_then}
 
@@ -28,15 +28,6 @@ module _ {D : Type 0} (clock : D → ℕ) (left_since : D → ℕ → Cut → Ty
   pub elapses_then : (a b c : D) (first second : Cut → Type 0) → Elapses (clock a) (clock b) (left_since a) (left_since b) first → Elapses (clock b) (clock c) (left_since b) (left_since c) second
       → ((cut : Cut) → second cut → first cut) → Elapses (clock a) (clock c) (left_since a) (left_since c) first
   elapses_then a b c first second ab bc narrows = elapses_joined a b c first ab (elapses_wider b c second first bc narrows)
-
--- where nothing more is possible, a cut leaves nothing more
-pub leaves_old : {D : Type 0} (disk : D → Disk) (may_be : D → Disk → Type 0) (certain : D → Type 0) (told : D → List ℕ) (old new : D) → KeepsDisk disk may_be certain old new → told new ≡ told old
-    → (c : Cut) → MayLeave (may_be new) (told new) c → MayLeave (may_be old) (told old) c
-leaves_old disk may_be certain told old new keeps same c leaves = record {
-  disk = leaves.disk;
-  possible = keeps.possible leaves.disk leaves.possible;
-  is_cut = subst (λ (t : List ℕ). IsCut leaves.disk t c) same leaves.is_cut;
-}
 
 -- where the disk that reads is the only one, a cut leaves it
 pub leaves_this : (may_be P : Disk → Type 0) (disk : Disk) (told before : List ℕ) → ((other : Disk) → may_be other → other ≡ disk) → told ≡ before → P disk

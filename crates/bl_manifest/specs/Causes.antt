@@ -2,6 +2,8 @@
 use Rattle.std.specs.Prelude.{◌≡◌, ◌⊎◌, ℕ, ◌+◌, ◌-◌, ◌≤◌, ◌^◌, min}
 use Rattle.bl_site.specs.declared.site.SiteErr.{SiteErr}
 use Rattle.bl_site.specs.declared.site.SiteErr.TheVariants as site
+use Rattle.bl_records.specs.declared.error.ReadErr.{ReadErr}
+use Rattle.bl_records.specs.declared.error.ReadErr.TheVariants as read
 use Rattle.bl_manifest.specs.declared.error.ManifestErr.{ManifestErr}
 use Rattle.bl_manifest.specs.declared.error.ManifestErr.TheVariants.{Disk, OutOfMemory}
 
@@ -9,6 +11,11 @@ abbrev pub error_of : SiteErr → ManifestErr
 error_of site.DiskFailed = Disk
 error_of site.TellFailed = Disk
 error_of site.OutOfMemory = OutOfMemory
+
+-- what a record that could not be read on is here
+abbrev pub read_error_of : ReadErr → ManifestErr
+read_error_of read.Disk = Disk
+read_error_of read.OutOfMemory = OutOfMemory
 
 -- a call that writes fails by the disk or for want of memory
 abbrev pub IsCause : ManifestErr → Type 0

@@ -2,6 +2,5 @@ pub mod Causes
 pub mod Held
 pub mod Laws
 pub mod ManifestFile
-pub mod Progress
 pub mod Restores
 pub mod Writing

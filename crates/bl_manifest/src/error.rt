@@ -7,6 +7,7 @@ use bl_code::{CodeErr, Octets};
 use bl_edit::EditErr;
 use bl_log::LogErr;
 use bl_names::NameErr;
+use bl_records::ReadErr;
 use bl_site::SiteErr;
 use std::alloc::{AllocError, AllocFailed};
 
@@ -79,5 +80,18 @@ impl<T: Drop> From<AllocFailed<T>> for ManifestErr {
 
     fn from(_: AllocFailed<T>) -> ManifestErr {
         ManifestErr::OutOfMemory
+    }
+}
+
+impl From<ReadErr> for ManifestErr {
+    ghost use Rattle.bl_manifest.specs.Causes.{read_error_of};
+
+    ghost from_gives = { λ e w. w ≡ read_error_of e };
+
+    fn from(error: ReadErr) -> ManifestErr {
+        match error {
+            ReadErr::Disk => ManifestErr::Disk,
+            ReadErr::OutOfMemory => ManifestErr::OutOfMemory,
+        }
     }
 }

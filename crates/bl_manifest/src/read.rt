@@ -6,21 +6,17 @@ ghost use Rattle.bl_site.specs.Calls.{KeepsDisk, Elapses};
 ghost use Rattle.bl_site.specs.Causes.{Rose};
 ghost use Rattle.bl_names.specs.Names.{IsNumber, manifest_name};
 ghost use Rattle.bl_build.specs.Restoring.{last_given, standing_of as standing_spec};
-ghost use Rattle.bl_manifest.specs.Causes.{IsCause};
-ghost use Rattle.bl_manifest.specs.Restores.{Restores, IsFaulty, HasRestored, IsDamaged, Taken};
-ghost use Rattle.bl_manifest.specs.Progress.{FeedsMore};
+ghost use Rattle.bl_manifest.specs.Restores.{HasRestored, IsDamaged, Taken};
 
 use crate::error::ManifestErr;
 use bl_build::{BadVersion, Standing, Version, apply};
 use bl_code::Octets;
 use bl_edit::{BadEdit, Edit, decode_edit};
-use bl_log::{LogNext, LogReader, found_records_are_first, placed_records_are_records};
+use bl_log::placed_records_are_records;
 use bl_names::{FileName, print_name};
+use bl_records::{NextRecord, RecordReader};
 use bl_site::Site;
 use std::alloc::Global;
-
-// How many bytes of a manifest are read at once.
-const PIECE: usize = 65536;
 
 // Files have numbers below this one, so the next number is at most this.
 const FILE_LIMIT: u64 = 1_000_000_000_000_000;
@@ -31,14 +27,6 @@ pub struct Restored {
     pub version: Version,
     /// What stands beside the version, each field as it was given last.
     pub standing: Standing,
-}
-
-// A buffer of so many bytes.
-fn buffer_of(alloc: Global, size: usize) -> Result<Vec<u8>, ManifestErr>
-    ensures size { IfOk result (λ v. length v.items ≡ size) }
-    ensures memory { IfErr result (λ e. e ≡ ManifestErr.OutOfMemory) }
-{
-    Ok(vec![in alloc; 0; size]?)
 }
 
 // Of the single fields, those that the edit gives take the place of those known before.
@@ -98,42 +86,6 @@ fn take_record(
     }
 }
 
-// The next piece of the file is fed, or the reader is closed where there is none. Answers whether the file is there.
-fn feed_piece<S: Site>(
-    site: &mut S,
-    name: &str,
-    buffer: &mut [u8],
-    reader: &mut LogReader,
-    offset: &mut u64,
-) -> Result<bool, ManifestErr>
-    requires some { 0 < length buffer.old }
-    requires open { reader.old.closed ≡ false }
-    ensures feeds { IfOk result (λ there. IsTrue there → FeedsMore S.shows (folder_of (S.disk site.old) name.now) offset.old offset.new reader.old reader.new) }
-    ensures absent { S.shows → IfOk result (λ there. there ≡ false → folder_of (S.disk site.old) name.now ≡ None) }
-    ensures stays { S.shows → KeepsDisk S.disk S.may_be S.certain site.old site.new }
-    ensures told { S.shows → S.told site.new ≡ S.told site.old }
-    ensures time { S.shows → Elapses (S.clock site.old) (S.clock site.new) (S.left_since site.old) (S.left_since site.new) (MayLeave (S.may_be site.old) (S.told site.old)) }
-    ensures causes { IfErr result IsCause }
-    ensures disk { IsErrOf result ManifestErr.Disk → Rose (S.disk_faults site.old) (S.disk_faults site.new) }
-    ensures later { S.disk_faults site.old ≤ S.disk_faults site.new }
-    ensures tell_faults { S.tell_faults site.new ≡ S.tell_faults site.old }
-    ensures changes { S.changes site.new ≡ S.changes site.old }
-{
-    let Some(count) = site.read_at(name, *offset, buffer)? else {
-        return Ok(false);
-    };
-    if count == 0 {
-        reader.close();
-        return Ok(true);
-    }
-    let Some(next) = offset.checked_add(count as u64) else {
-        return Err(ManifestErr::OutOfMemory);
-    };
-    reader.feed(&buffer[..count])?;
-    *offset = next;
-    Ok(true)
-}
-
 fn corrupt(alloc: Global, name: &str, place: u64) -> ManifestErr
     ensures { (result ≡ ManifestErr.OutOfMemory) ⊎ (result ≡ ManifestErr.Corrupt name.now place) }
 {
@@ -141,55 +93,6 @@ fn corrupt(alloc: Global, name: &str, place: u64) -> ManifestErr
         Ok(name) => ManifestErr::Corrupt(name, place),
         Err(_) => ManifestErr::OutOfMemory,
     }
-}
-
-// Reads the file to where its reading ends, and applies each edit on the way.
-fn read_records<S: Site>(
-    alloc: Global,
-    site: &mut S,
-    name: &str,
-    buffer: &mut [u8],
-) -> Result<Restored, ManifestErr>
-    requires { 0 < length buffer.old }
-    ensures restored { S.shows → IfOk result (λ r. (bytes : List ℕ) → folder_of (S.disk site.old) name.now ≡ Some bytes → Restores bytes (record { version = r.version; standing = r.standing })) }
-    ensures corrupt { S.shows → (file : List ℕ) (place : ℕ) → result ≡ Err (ManifestErr.Corrupt file place) → (file ≡ name.now) × ((bytes : List ℕ) → folder_of (S.disk site.old) name.now ≡ Some bytes → IsFaulty bytes place) }
-    ensures stays { S.shows → KeepsDisk S.disk S.may_be S.certain site.old site.new }
-    ensures told { S.shows → S.told site.new ≡ S.told site.old }
-    ensures time { S.shows → Elapses (S.clock site.old) (S.clock site.new) (S.left_since site.old) (S.left_since site.new) (MayLeave (S.may_be site.old) (S.told site.old)) }
-    ensures disk { IsErrOf result ManifestErr.Disk → Rose (S.disk_faults site.old) (S.disk_faults site.new) }
-    ensures later { S.disk_faults site.old ≤ S.disk_faults site.new }
-    ensures tell_faults { S.tell_faults site.new ≡ S.tell_faults site.old }
-    ensures changes { S.changes site.new ≡ S.changes site.old }
-{
-    let mut reader = LogReader::start(alloc);
-    let mut version = Version::empty(alloc);
-    let mut known = Edit::new(alloc);
-    let mut offset = 0;
-    placed_records_are_records();
-    found_records_are_first();
-    'steps: for _ in 0..u64::MAX {
-        match reader.next()? {
-            LogNext::Found(payload) => {
-                let goes_on = take_record(alloc, &mut version, &mut known, payload.as_slice())?;
-                if !goes_on {
-                    return Err(corrupt(alloc, name, reader.place()));
-                }
-            }
-            LogNext::NeedMore => {
-                let there = feed_piece(site, name, buffer, &mut reader, &mut offset)?;
-                if !there {
-                    return Err(corrupt(alloc, name, 0));
-                }
-            }
-            LogNext::End(place, _) => {
-                let Some(standing) = standing_of(&known) else {
-                    return Err(corrupt(alloc, name, place));
-                };
-                return Ok(Restored { version, standing });
-            }
-        }
-    }
-    Err(ManifestErr::OutOfMemory)
 }
 
 /// Reads the manifest of this number, from 1 to 10^15 - 1: the version that its edits lead to from the empty one, and the single
@@ -212,9 +115,26 @@ pub fn read_all<S: Site>(alloc: Global, site: &mut S, number: u64) -> Result<Res
     ensures changes { S.changes site.new ≡ S.changes site.old }
 {
     let name = print_name(alloc, &FileName::Manifest(number))?;
-    let mut buffer = buffer_of(alloc, PIECE)?;
-    let Some(_) = site.len(name.as_str())? else {
-        return Err(corrupt(alloc, name.as_str(), 0));
-    };
-    read_records(alloc, site, name.as_str(), &mut buffer)
+    let mut records = RecordReader::open(alloc, name)?;
+    let mut version = Version::empty(alloc);
+    let mut known = Edit::new(alloc);
+    placed_records_are_records();
+    'records: for _ in 0..u64::MAX {
+        match records.next(site)? {
+            NextRecord::Record(payload) => {
+                let goes_on = take_record(alloc, &mut version, &mut known, payload.as_slice())?;
+                if !goes_on {
+                    return Err(corrupt(alloc, records.name(), records.place()));
+                }
+            }
+            NextRecord::End(place) => {
+                let Some(standing) = standing_of(&known) else {
+                    return Err(corrupt(alloc, records.name(), place));
+                };
+                return Ok(Restored { version, standing });
+            }
+            NextRecord::Absent => return Err(corrupt(alloc, records.name(), 0)),
+        }
+    }
+    Err(ManifestErr::OutOfMemory)
 }

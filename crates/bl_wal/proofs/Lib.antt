@@ -3,4 +3,3 @@ mod HeldLemmas
 mod LawLemmas
 mod ProgressLemmas
 mod RecordLemmas
-mod TimeLemmas

@@ -4,5 +4,4 @@ pub mod Entries
 pub mod Held
 pub mod Laws
 pub mod LogFile
-pub mod Progress
 pub mod Replay

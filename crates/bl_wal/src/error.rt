@@ -7,6 +7,7 @@ use bl_code::{CodeErr, Octets};
 use bl_entry::EntryErr;
 use bl_log::LogErr;
 use bl_names::NameErr;
+use bl_records::ReadErr;
 use bl_site::SiteErr;
 use std::alloc::{AllocError, AllocFailed};
 
@@ -79,5 +80,18 @@ impl From<NameErr> for WalErr {
 
     fn from(_: NameErr) -> WalErr {
         WalErr::OutOfMemory
+    }
+}
+
+impl From<ReadErr> for WalErr {
+    ghost use Rattle.bl_wal.specs.Causes.{read_error_of};
+
+    ghost from_gives = { λ e w. w ≡ read_error_of e };
+
+    fn from(error: ReadErr) -> WalErr {
+        match error {
+            ReadErr::Disk => WalErr::Disk,
+            ReadErr::OutOfMemory => WalErr::OutOfMemory,
+        }
     }
 }

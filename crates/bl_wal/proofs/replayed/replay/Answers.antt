@@ -1,15 +1,109 @@
-use Rattle.std.proofs.Common.{◌≡◌, ◌∙◌, ap, sym}
+use Rattle.std.proofs.Common.{◌≡◌, List, true, false, inl, refl, sym, ◌∙◌, ap, subst, arith}
 use Rattle.bl_site.specs.Disk.{Disk, folder_of}
+use Rattle.bl_entry.specs.declared.key.Entry.{Entry}
+use Rattle.bl_records.proofs.AnswerLemmas.{record_of, end_of}
+use Rattle.bl_records.proofs.QuietCalls.{keeps_none, keeps_then, elapses_none, elapses_then}
 use Rattle.bl_wal.specs.LogFile.{log_name}
-use Rattle.bl_wal.proofs.ProgressLemmas.{at_some, reads_of, has_entries}
+use Rattle.bl_wal.specs.Replay.{HasEntries}
+use Rattle.bl_wal.proofs.ProgressLemmas.{begins, record_taken, ended, broke_off, taken_of, corrupt_is}
 use Rattle.bl_wal.proofs.replayed.replay.Goals as goal
 
-pub returns-clause-replayed : goal.returns-clause-replayed
-returns-clause-replayed g c = λ shown.
-    let before = g.S.Site.disk c.args.site.now in
-    let after = g.S.Site.disk c.len.new.self in
-    let first : c.as_str.result.now ≡ log_name c.args.number = c.as_str.ensures.value ∙ c.in_ok-name.ensures in
-    let second : c.as_str-2.result.now ≡ log_name c.args.number = c.as_str-2.ensures.value ∙ c.in_ok-name.ensures in
-    let here : after c.as_str-2.result.now ≡ before (log_name c.args.number) = ap (λ (d : Disk). d c.as_str-2.result.now) (c.in_ok-len.ensures.stays shown).same ∙ ap before second in
-    let found = at_some c.in_ok-len.field-0 c.in-Some.field-0 _ _ c.in-Some.is (c.in_ok-len.ensures.value shown) in
-    has_entries (after c.as_str-2.result.now) c.args.number c.args.last (folder_of before) c.read_log.result (sym (ap reads_of here)) (found.0, here ∙ sym (ap before first) ∙ found.1) (c.read_log.ensures.replayed shown)
+pub records-init : goal.records-init
+records-init g c =
+    let site = g.S.Site in
+    record {
+      name = c.in_ok-records.ensures.name ∙ c.in_ok-name.ensures;
+      progress = λ shown. begins c.args.last (folder_of (site.disk c.args.site.now) (log_name c.args.number)) c.in_ok-records.records c.new-entries.result.items (c.in_ok-records.ensures.begins _) c.new-entries.ensures.items;
+      stays = λ shown. keeps_none site.disk site.may_be site.certain c.args.site.now;
+      told = λ shown. refl;
+      time = λ shown. elapses_none site.disk site.may_be site.certain site.told site.clock site.left_since c.args.site.now;
+      later = omega arith;
+      tell_faults = refl;
+      changes = refl;
+    }
+
+pub returns-in_err-payload-clause-time : goal.returns-in_err-payload-clause-time
+returns-in_err-payload-clause-time g c = λ shown.
+    let site = g.S.Site in
+    elapses_then site.disk site.may_be site.certain site.told site.clock site.left_since c.args.site.now c.records.site c.next.new.site (c.records.invariant.stays shown) (c.records.invariant.told shown)
+    (c.records.invariant.time shown) (c.next.ensures.time shown)
+
+pub returns-in_err-goes_on-in-Record-clause-time : goal.returns-in_err-goes_on-in-Record-clause-time
+returns-in_err-goes_on-in-Record-clause-time g c = λ shown.
+    let site = g.S.Site in
+    elapses_then site.disk site.may_be site.certain site.told site.clock site.left_since c.args.site.now c.records.site c.next.new.site (c.records.invariant.stays shown) (c.records.invariant.told shown)
+    (c.records.invariant.time shown) (c.next.ensures.time shown)
+
+pub returns-then-not-goes_on-clause-time : goal.returns-then-not-goes_on-clause-time
+returns-then-not-goes_on-clause-time g c = λ shown.
+    let site = g.S.Site in
+    elapses_then site.disk site.may_be site.certain site.told site.clock site.left_since c.args.site.now c.records.site c.next.new.site (c.records.invariant.stays shown) (c.records.invariant.told shown)
+    (c.records.invariant.time shown) (c.next.ensures.time shown)
+
+pub returns-in-End-clause-time : goal.returns-in-End-clause-time
+returns-in-End-clause-time g c = λ shown.
+    let site = g.S.Site in
+    elapses_then site.disk site.may_be site.certain site.told site.clock site.left_since c.args.site.now c.records.site c.next.new.site (c.records.invariant.stays shown) (c.records.invariant.told shown)
+    (c.records.invariant.time shown) (c.next.ensures.time shown)
+
+pub returns-in-Absent-clause-time : goal.returns-in-Absent-clause-time
+returns-in-Absent-clause-time g c = λ shown.
+    let site = g.S.Site in
+    elapses_then site.disk site.may_be site.certain site.told site.clock site.left_since c.args.site.now c.records.site c.next.new.site (c.records.invariant.stays shown) (c.records.invariant.told shown)
+    (c.records.invariant.time shown) (c.next.ensures.time shown)
+
+pub returns-then-not-goes_on-clause-corrupt : goal.returns-then-not-goes_on-clause-corrupt
+returns-then-not-goes_on-clause-corrupt g c = λ shown file place e.
+    let site = g.S.Site in
+    let folder = folder_of (site.disk c.args.site.now) in
+    let same : folder_of (site.disk c.records.site) c.records.records.name ≡ folder (log_name c.args.number) =
+    ap (λ (d : Disk). folder_of d c.records.records.name) (c.records.invariant.stays shown).same ∙ ap folder c.records.invariant.name in
+    let is = corrupt_is c.corrupt.result c.name.result.now file c.place.result place c.corrupt.ensures (cc e) in
+    let t = taken_of c.in_ok-goes_on-in-Record.goes_on false c.in-Record.payload c.as_slice.result.now _ _ _ _ c.if-not-goes_on.true c.as_slice.ensures c.in_ok-goes_on-in-Record.ensures.taken in (
+      is.0 ∙ c.name.ensures ∙ c.next.ensures.name ∙ c.records.invariant.name,
+      broke_off folder c.args.number c.args.last c.records.records c.next.new.self c.in-Record.payload c.records.entries.items c.records.taken place
+          (record_of c.in_ok-payload.field-0 c.in-Record.payload (folder_of (site.disk c.records.site) c.records.records.name) (folder (log_name c.args.number)) c.records.records c.next.new.self c.in-Record.is same (c.in_ok-payload.ensures.answers shown)) t.0 (is.1 ∙ c.place.ensures) (c.records.invariant.progress shown),
+    )
+
+pub returns-in-Absent-clause-corrupt : goal.returns-in-Absent-clause-corrupt
+returns-in-Absent-clause-corrupt g c = λ shown file place e.
+    let site = g.S.Site in
+    let folder = folder_of (site.disk c.args.site.now) in
+    let same : folder_of (site.disk c.records.site) c.records.records.name ≡ folder (log_name c.args.number) =
+    ap (λ (d : Disk). folder_of d c.records.records.name) (c.records.invariant.stays shown).same ∙ ap folder c.records.invariant.name in
+    let is = corrupt_is c.corrupt-in-Absent.result c.name-in-Absent.result.now file 0 place c.corrupt-in-Absent.ensures (cc e) in
+    (is.0 ∙ c.name-in-Absent.ensures ∙ c.next.ensures.name ∙ c.records.invariant.name, inl (sym same ∙ c.in_ok-payload.ensures.absent shown c.in-Absent.is, is.1))
+
+pub returns-in-End-clause-replayed : goal.returns-in-End-clause-replayed
+returns-in-End-clause-replayed g c = λ shown.
+    let site = g.S.Site in
+    let folder = folder_of (site.disk c.args.site.now) in
+    let same : folder_of (site.disk c.records.site) c.records.records.name ≡ folder (log_name c.args.number) =
+    ap (λ (d : Disk). folder_of d c.records.records.name) (c.records.invariant.stays shown).same ∙ ap folder c.records.invariant.name in
+    let P : List Entry → Type 0 = λ es. HasEntries folder c.args.number c.args.last es c.records.taken in
+    subst P (sym c.from_vec-entries.ensures)
+    (ended c.placed_records_are_records.ensures folder c.args.number c.args.last c.records.records c.records.entries.items c.records.taken c.in-End.field-0
+    (end_of c.in_ok-payload.field-0 c.in-End.field-0 (folder_of (site.disk c.records.site) c.records.records.name) (folder (log_name c.args.number)) c.records.records c.next.new.self c.in-End.is same (c.in_ok-payload.ensures.answers shown))
+    (c.records.invariant.progress shown))
+
+pub records-preserved : goal.records-preserved
+records-preserved g c =
+    let site = g.S.Site in
+    let folder = folder_of (site.disk c.args.site.now) in
+    let t = taken_of c.in_ok-goes_on-in-Record.goes_on true c.in-Record.payload c.as_slice.result.now _ _ _ _ c.if-not-goes_on.false c.as_slice.ensures c.in_ok-goes_on-in-Record.ensures.taken in
+    record {
+      name = c.next.ensures.name ∙ c.records.invariant.name;
+      progress = λ shown.
+          let same : folder_of (site.disk c.records.site) c.records.records.name ≡ folder (log_name c.args.number) =
+          ap (λ (d : Disk). folder_of d c.records.records.name) (c.records.invariant.stays shown).same ∙ ap folder c.records.invariant.name in
+          record_taken c.args.last (folder (log_name c.args.number)) c.batches_join.ensures.join c.records.records c.next.new.self c.in-Record.payload _ _ _ _
+          (record_of c.in_ok-payload.field-0 c.in-Record.payload (folder_of (site.disk c.records.site) c.records.records.name) (folder (log_name c.args.number)) c.records.records c.next.new.self c.in-Record.is same (c.in_ok-payload.ensures.answers shown)) t (c.records.invariant.progress shown);
+      stays = λ shown. keeps_then site.disk site.may_be site.certain c.args.site.now c.records.site c.next.new.site (c.records.invariant.stays shown) (c.next.ensures.stays shown);
+      told = λ shown. c.next.ensures.told shown ∙ c.records.invariant.told shown;
+      time = λ shown.
+          elapses_then site.disk site.may_be site.certain site.told site.clock site.left_since c.args.site.now c.records.site c.next.new.site (c.records.invariant.stays shown) (c.records.invariant.told shown)
+          (c.records.invariant.time shown) (c.next.ensures.time shown);
+      later = omega (arith, c.next.ensures.later, c.records.invariant.later);
+      tell_faults = c.next.ensures.tell_faults ∙ c.records.invariant.tell_faults;
+      changes = c.next.ensures.changes ∙ c.records.invariant.changes;
+    }

@@ -1,0 +1,3 @@
+pub mod AnswerLemmas
+mod FoundLemmas
+pub mod QuietCalls
