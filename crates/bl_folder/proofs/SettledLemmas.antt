@@ -12,7 +12,7 @@ use Rattle.bl_names.specs.declared.name.FileName.{FileName}
 use Rattle.bl_names.specs.declared.name.FileName.TheVariants.{Current, Manifest, Log, Table, Blob}
 use Rattle.bl_names.specs.Names.{name_of, IsNumber}
 use Rattle.bl_edit.specs.Bounds.{is_number}
-use Rattle.bl_wal.specs.Chance.{NoChanceMatch}
+use Rattle.bl_records.specs.Chance.{NoChanceMatch}
 use Rattle.bl_build.specs.Restoring.{Restored}
 use Rattle.bl_folder.specs.Files.{file}
 use Rattle.bl_folder.specs.Live.{IsFresh, IsLive}

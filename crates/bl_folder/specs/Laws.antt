@@ -9,7 +9,7 @@ use Rattle.bl_entry.specs.Batches.{Batch}
 use Rattle.bl_entry.specs.Revisions.{Map}
 use Rattle.bl_build.specs.Restoring.{Restored}
 use Rattle.bl_build.specs.Versions.{IsVersion}
-use Rattle.bl_wal.specs.Chance.{NoChanceMatch}
+use Rattle.bl_records.specs.Chance.{NoChanceMatch}
 use Rattle.bl_folder.specs.Files.{file}
 use Rattle.bl_folder.specs.Logs.{HaveBatches}
 use Rattle.bl_folder.specs.Live.{IsFresh, IsLive, IsQuietOnFresh}

@@ -3,7 +3,8 @@ use Rattle.std.specs.Prelude.{◌≡◌, ◌⊎◌, ℕ, false, List, [], ◌∷
 use Rattle.bl_site.specs.Disk.{Disk, Cut, IsCut, folder_of}
 use Rattle.bl_site.specs.Calls.{DoneOrNot}
 use Rattle.bl_names.specs.Names.{manifest_name}
-use Rattle.bl_log.specs.Written.{OnlyWritten}
+use Rattle.bl_names.specs.declared.name.FileName.TheVariants.{Manifest}
+use Rattle.bl_records.specs.Chance.{IsOnlyWritten}
 use Rattle.bl_edit.specs.declared.edit.Edit.{Edit}
 use Rattle.bl_build.specs.Restoring.{Restored}
 use Rattle.bl_manifest.specs.ManifestFile.{ManifestFile, record_bytes}
@@ -11,22 +12,17 @@ use Rattle.bl_manifest.specs.Writing.{AppendsPartly}
 use Rattle.bl_manifest.specs.Held.{Edits, AreReadBack, manifest_of, HoldsEdits, ReadsEdits, ReadsFirst}
 use Rattle.bl_manifest.specs.Restores.{Restores, IsFaulty}
 
--- no torn fragment's checksum matches by chance: each fragment that reading the manifest accepts stands at the same place in what was written of it
-abbrev pub IsOnlyWritten : Cut → ℕ → Type 0
-IsOnlyWritten c number = (bytes : List ℕ) → c.folder (manifest_name number) ≡ Some bytes
-    → (all : List ℕ) × (c.written (manifest_name number) ≡ Some all) × OnlyWritten bytes all
-
 -- A cut leaves of a manifest the first of its edits, at least the synced ones.
 abbrev pub CutManifestsReadAsFronts : Type 0
 CutManifestsReadAsFronts = (disk : Disk) (manifest : ManifestFile) (edits : Edits) (synced : ℕ) (told : List ℕ) (c : Cut)
-    → HoldsEdits disk manifest edits synced → IsCut disk told c → IsOnlyWritten c manifest.number → ReadsFirst c.folder manifest.number edits synced
+    → HoldsEdits disk manifest edits synced → IsCut disk told c → IsOnlyWritten c.folder c.written (Manifest manifest.number) → ReadsFirst c.folder manifest.number edits synced
 
 -- While one edit more is appended and synced, a cut leaves the manifest without it or with it.
 abbrev pub CutAppendsReadAsFronts : Type 0
 CutAppendsReadAsFronts = (disk during : Disk) (manifest : ManifestFile) (edits : Edits) (synced : ℕ) (e : Edit) (told : List ℕ) (c : Cut)
     → manifest.failed ≡ false → HoldsEdits disk manifest edits synced → AreReadBack (e ∷ [])
     → DoneOrNot (AppendsPartly (manifest_name manifest.number) (record_bytes manifest.place e)) disk during
-    → IsCut during told c → IsOnlyWritten c manifest.number
+    → IsCut during told c → IsOnlyWritten c.folder c.written (Manifest manifest.number)
     → ReadsEdits c.folder manifest.number edits ⊎ ReadsEdits c.folder manifest.number (edits ++ e ∷ [])
 
 -- It leaves a synced manifest as it was written.

@@ -106,6 +106,7 @@ pub fn read_all<S: Site>(alloc: Global, site: &mut S, number: u64) -> Result<Res
     requires { IsNumber number }
     ensures restored { S.shows → IfOk result (λ r. HasRestored (folder_of (S.disk site.old)) number (record { version = r.version; standing = r.standing })) }
     ensures corrupt { S.shows → (file : List ℕ) (place : ℕ) → result ≡ Err (ManifestErr.Corrupt file place) → (file ≡ manifest_name number) × IsDamaged (folder_of (S.disk site.old)) number place }
+    ensures named { (file : List ℕ) (place : ℕ) → result ≡ Err (ManifestErr.Corrupt file place) → file ≡ manifest_name number }
     ensures stays { S.shows → KeepsDisk S.disk S.may_be S.certain site.old site.new }
     ensures told { S.shows → S.told site.new ≡ S.told site.old }
     ensures time { S.shows → Elapses (S.clock site.old) (S.clock site.new) (S.left_since site.old) (S.left_since site.new) (MayLeave (S.may_be site.old) (S.told site.old)) }

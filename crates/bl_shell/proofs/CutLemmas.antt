@@ -8,7 +8,7 @@ use Rattle.bl_site.specs.Disk.{Folder, Disk, Cut, IsCut}
 use Rattle.bl_entry.specs.Batches.{Batch}
 use Rattle.bl_script.specs.declared.command.Parsed.{Parsed}
 use Rattle.bl_script.specs.declared.command.Parsed.TheVariants.{Nothing}
-use Rattle.bl_wal.specs.Chance.{NoChanceMatch}
+use Rattle.bl_records.specs.Chance.{NoChanceMatch}
 use Rattle.bl_store.specs.Cuts.{LeavesFirst, AreLeftWhole}
 use Rattle.bl_store.specs.Folders.{Stands, LogStands}
 use Rattle.bl_store.specs.Laws.{CutsStand, BatchesMakeMap}

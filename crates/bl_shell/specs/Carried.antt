@@ -13,7 +13,7 @@ use Rattle.bl_script.specs.Lines.{lines_in, whole_lines_in}
 use Rattle.bl_script.specs.Parsing.{parsed}
 use Rattle.bl_script.specs.Printing.{ok_line}
 use Rattle.bl_wal.specs.LogFile.{log_name}
-use Rattle.bl_wal.specs.Chance.{NoChanceMatch}
+use Rattle.bl_records.specs.Chance.{NoChanceMatch}
 use Rattle.bl_store.specs.Cuts.{AreLeftWhole}
 use Rattle.bl_store.specs.Folders.{Stands}
 use Rattle.bl_store.specs.Logs.{after_batches}

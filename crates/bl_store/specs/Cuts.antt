@@ -4,7 +4,7 @@ use Rattle.bl_site.specs.Disk.{File, Folder, Disk, Cut, IsImage}
 use Rattle.bl_names.specs.Names.{IsNumber}
 use Rattle.bl_entry.specs.Batches.{Batch}
 use Rattle.bl_wal.specs.LogFile.{log_name}
-use Rattle.bl_wal.specs.Chance.{NoChanceMatch}
+use Rattle.bl_records.specs.Chance.{NoChanceMatch}
 use Rattle.bl_store.specs.Folders.{Stands, IsNext}
 use Rattle.bl_store.specs.Stored.{IsSynced, Makes}
 

@@ -7,7 +7,7 @@ use Rattle.bl_entry.specs.Batches.{Batch}
 use Rattle.bl_entry.specs.Records.{batches_of}
 use Rattle.bl_wal.specs.LogFile.{LogFile, log_name}
 use Rattle.bl_wal.specs.Held.{Batches, IsReadBack, record_of, log_of, HoldsBatches, ReadsFirst}
-use Rattle.bl_wal.specs.Chance.{NoChanceMatch}
+use Rattle.bl_records.specs.Chance.{NoChanceMatch}
 
 -- A cut leaves of a log the first of its batches, at least the synced ones.
 abbrev pub CutLogsReadAsFronts : Type 0

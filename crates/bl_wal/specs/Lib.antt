@@ -1,5 +1,4 @@
 pub mod Causes
-pub mod Chance
 pub mod Entries
 pub mod Held
 pub mod Laws

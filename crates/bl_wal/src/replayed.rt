@@ -112,6 +112,7 @@ pub fn replay<S: Site>(
     requires { IsNumber number }
     ensures replayed { S.shows → IfOk result (λ r. HasEntries (folder_of (S.disk site.old)) number last r.entries r.last) }
     ensures corrupt { S.shows → (file : List ℕ) (place : ℕ) → result ≡ Err (WalErr.Corrupt file place) → (file ≡ log_name number) × IsTorn (folder_of (S.disk site.old)) number last place }
+    ensures named { (file : List ℕ) (place : ℕ) → result ≡ Err (WalErr.Corrupt file place) → file ≡ log_name number }
     ensures stays { S.shows → KeepsDisk S.disk S.may_be S.certain site.old site.new }
     ensures told { S.shows → S.told site.new ≡ S.told site.old }
     ensures time { S.shows → Elapses (S.clock site.old) (S.clock site.new) (S.left_since site.old) (S.left_since site.new) (MayLeave (S.may_be site.old) (S.told site.old)) }
