@@ -11,31 +11,7 @@ use Rattle.bl_edit.specs.declared.edit.NewTable.{NewTable}
 use Rattle.bl_build.specs.Versions.{linked_to, with_links, add_garbage, with_garbage, first_over, is_over, is_spent, from_linked, still_needed}
 use Rattle.bl_build.proofs.Levels.{not_eqb}
 use Rattle.bl_build.proofs.Placing.{all_from, all_get}
-use Rattle.bl_build.proofs.Searching.{drop_all}
-
--- none of these has the number
-absent_all : (number : ℕ) (bs : List BlobMeta) → AllByRecursion (λ b. b.number ≢ number) bs → list_any (λ b. b.number == number) bs ≡ false
-absent_all number [] h = refl
-absent_all number (b ∷ bs) h = λ i. not_eqb b.number number h.0 i || absent_all number bs h.1 i
-
-pub absent : (number at : ℕ) (bs : List BlobMeta) (d : BlobMeta) → Ascends blob_number bs → ((k : ℕ) (e : BlobMeta) → k < at → k < length bs → (get_or bs k e).number < number)
-    → (at < length bs → number < (get_or bs at d).number) → list_any (λ b. b.number == number) bs ≡ false
-absent number at [] d h below above = refl
-absent number zero (b ∷ bs) d h below above =
-    let less : number < b.number = above (omega arith) in
-    absent_all number (b ∷ bs) ((λ e. omega (arith, e)), all_from (λ c. b.number < c.number) (λ c. c.number ≢ number) bs (λ c lt e. omega (arith, e)) h.0)
-absent number (suc at) (b ∷ bs) d h below above =
-    let less : b.number < number = below 0 b (omega arith) (omega arith) in
-    λ i. not_eqb b.number number (λ e. omega (arith, e)) i || absent number at bs d h.1 (λ k e lt lt2. below (suc k) e (omega arith) (omega arith)) (λ lt. above (omega arith)) i
-
-pub or_right_true : (a b : Bool) → b ≡ true → (a || b) ≡ true
-or_right_true true b h = refl
-or_right_true false b h = h
-
-pub present : (number i : ℕ) (bs : List BlobMeta) (d : BlobMeta) → i < length bs → (get_or bs i d).number ≡ number → list_any (λ b. b.number == number) bs ≡ true
-present number i [] d lt e = absurd (omega arith)
-present number zero (b ∷ bs) d lt e = ap (λ t. t || list_any (λ c. c.number == number) bs) (eq-eqb b.number number e)
-present number (suc i) (b ∷ bs) d lt e = or_right_true (b.number == number) (list_any (λ c. c.number == number) bs) (present number i bs d (omega arith) e)
+use Rattle.bl_build.proofs.Searching.{drop_all, drop_step}
 
 -- ---- garbage
 
@@ -130,9 +106,6 @@ pub record Joins (old : List BlobMeta) (garbage : List BlobGarbage) (i : ℕ) (n
 
 pub joins_start : (old : List BlobMeta) (garbage : List BlobGarbage) → Ascends blob_number old → Joins old garbage 0 old
 joins_start old garbage h = record { ascends = h; over = refl; added = refl }
-
-drop_step : {A : Type 0} (xs : List A) (i : ℕ) (x d : A) → i < length xs → x ≡ get_or xs i d → drop i xs ≡ x ∷ drop (i + 1) xs
-drop_step xs i x d lt is = drop-cons xs i d lt ∙ (λ j. sym is j ∷ drop (sym (add-one i) j) xs)
 
 -- one record more: of a file that is not there, and of one that is
 pub joins_none : (old : List BlobMeta) (garbage : List BlobGarbage) (i : ℕ) (now : List BlobMeta) (g e : BlobGarbage) → Joins old garbage i now → i < length garbage → g ≡ get_or garbage i e

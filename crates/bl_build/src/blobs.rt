@@ -27,6 +27,14 @@ pub(crate) fn first_unknown_blob(blobs: &[BlobMeta], garbage: &[BlobGarbage]) ->
     None
 }
 
+/// Whether there is a blob file of this number.
+pub(crate) fn has_blob(blobs: &[BlobMeta], number: u64) -> bool
+    requires { Ascends blob_number blobs.now }
+    ensures { result ≡ list_any (λ b. b.number == number) blobs.now }
+{
+    place_of(blobs, number).is_some()
+}
+
 // Where the blob file of this number stands.
 fn place_of(blobs: &[BlobMeta], number: u64) -> Option<usize>
     requires { Ascends blob_number blobs.now }

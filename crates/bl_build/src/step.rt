@@ -14,7 +14,7 @@ use crate::checks::{first_blob_twice, first_table_twice, first_unknown};
 use crate::error::{BadVersion, BuildErr};
 use crate::meta::BlobMeta;
 use crate::overlap::first_overlap;
-use crate::table::{copied, deleted_rank, rank_of};
+use crate::table::{copied, copies, deleted_rank, rank_of};
 use crate::version::Version;
 use bl_edit::{BlobAddition, DeletedTable, Edit, NewTable};
 use std::alloc::Global;
@@ -31,7 +31,7 @@ pub fn apply(alloc: Global, base: &Version, edit: &Edit) -> Result<Version, BadV
 {
     let tables = base.all_tables();
     let deleted = edit.deleted.as_slice();
-    if let Some(number) = first_unknown(alloc, tables, deleted)? {
+    if let Some(number) = first_unknown(tables, deleted) {
         return Err(BadVersion::UnknownTable(number));
     }
     let left = without(alloc, deleted, tables)?;
@@ -69,6 +69,9 @@ fn without(
     requires tables { AllByRecursion (λ t. IsTrue (table_fits t)) tables.now }
     ensures { IfOk result (λ left. left.items ≡ tables_without deleted.now tables.now) }
 {
+    if deleted.is_empty() {
+        return copies(alloc, tables);
+    }
     let gone = deleted_ranks(alloc, deleted)?;
     let mut left = Vec::with_capacity(alloc, tables.len())?;
     for table in tables {
