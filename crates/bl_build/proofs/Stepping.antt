@@ -120,7 +120,7 @@ files_ascend base e v h s =
 
 -- ---- what later steps keep
 
-garbage_ascends : (gs : List BlobGarbage) (bs : List BlobMeta) → Ascends blob_number bs → Ascends blob_number (with_garbage gs bs)
+pub garbage_ascends : (gs : List BlobGarbage) (bs : List BlobMeta) → Ascends blob_number bs → Ascends blob_number (with_garbage gs bs)
 garbage_ascends [] bs h = h
 garbage_ascends (g ∷ gs) bs h = garbage_ascends gs (map (add_garbage g) bs) (ascends_more g bs h)
 

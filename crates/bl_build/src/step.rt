@@ -20,11 +20,17 @@ use bl_edit::{BlobAddition, DeletedTable, Edit, NewTable};
 use std::alloc::Global;
 use std::collections::BTreeSet;
 
-/// The version after an edit whose numbers and keys are in the bounds of the format; the base stays as it is.
+/// The version after an edit whose numbers and keys are in the bounds of the format. The base and the edit stay
+/// as they are: the new version has keys of its own.
 ///
-/// The refusals are tested in their order, each over the whole edit. The cost is that of a copy of the base
-/// and of the edit: the tables of the base are passed over once, and looked up by rank; where the edit adds to
-/// a level from 1 on, they are also sorted by level and key.
+/// The refusals are tested in the order in which `BadVersion` has them, each over the whole edit. `OutOfMemory`
+/// comes where memory runs out, which may be before a refusal is found.
+///
+/// The cost is that of a copy of the base and of the edit. Deleted tables and blob files are looked up in the base
+/// by their order. The tables of the base are passed over to copy them and to count the links of blob files; where
+/// the edit adds tables, to look each up among the numbers that are added; and where it adds to a level from 1 on,
+/// to look each up among the added tables, sorted by level and key. Each added file moves those behind it. Memory
+/// beside the new version is taken for the edit's own files, and for a number for each blob file.
 pub fn apply(alloc: Global, base: &Version, edit: &Edit) -> Result<Version, BadVersion>
     requires { IsEdit edit.now }
     ensures { Applies result (step base.now edit.now) }

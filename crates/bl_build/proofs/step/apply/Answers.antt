@@ -3,7 +3,7 @@ use Rattle.bl_edit.specs.declared.edit.Edit.{Edit}
 use Rattle.bl_build.specs.Listing.{Ascends, Listing, blob_number, table_rank}
 use Rattle.bl_build.specs.Versions.{IsVersion, addition_numbers, after, blob_numbers, first_over, first_overlap, first_twice, first_unknown, first_unknown_blob, still_needed, table_numbers, with_blobs, with_garbage, with_links, with_tables, without}
 use Rattle.bl_build.proofs.Placing.{ascends_at}
-use Rattle.bl_build.proofs.Stepping.{IsNew, after_is_version, files_ascend, left_ascends, step_1, step_2, step_3, step_4, step_5, step_6, step_7}
+use Rattle.bl_build.proofs.Stepping.{IsNew, after_is_version, files_ascend, garbage_ascends, left_ascends, step_1, step_2, step_3, step_4, step_5, step_6, step_7}
 use Rattle.bl_build.proofs.step.apply.Goals as goal
 
 pub returns-in-Some : goal.returns-in-Some
@@ -151,6 +151,24 @@ with_tables-requires c =
     let deleted : c.as_slice-deleted.result.now ≡ edit.deleted = c.as_slice-deleted.ensures in
     let left : c.in_ok-left.left.items ≡ without edit.deleted base.tables = c.in_ok-left.ensures ∙ (λ i. without (deleted i) (tables i)) in
     ascends_at table_rank c.in_ok-left.left.items (subst (Ascends table_rank) (sym left) (left_ascends base edit c.all_tables-tables.ensures.version))
+
+pub needed-requires : goal.needed-requires
+needed-requires c =
+    let base : Listing = c.args.base.now in
+    let edit : Edit = c.args.edit.now in
+    let tables : c.all_tables-tables.result.now ≡ base.tables = c.all_tables-tables.ensures.value in
+    let deleted : c.as_slice-deleted.result.now ≡ edit.deleted = c.as_slice-deleted.ensures in
+    let known : first_unknown base.tables edit.deleted ≡ c.first_unknown.result = sym (c.first_unknown.ensures ∙ (λ i. first_unknown (tables i) (deleted i))) in
+    let left : c.in_ok-left.left.items ≡ without edit.deleted base.tables = c.in_ok-left.ensures ∙ (λ i. without (deleted i) (tables i)) in
+    let added : c.as_slice-added.result.now ≡ edit.added = c.as_slice-added.ensures in
+    let twice : first_twice (table_numbers (without edit.deleted base.tables)) (table_numbers edit.added) ≡ c.in_ok-number.field-0 =
+    sym (c.in_ok-number.ensures ∙ (λ i. first_twice (table_numbers ((c.deref.ensures.value ∙ left) i)) (table_numbers (added i)))) in
+    let files : first_twice (blob_numbers base.blobs) (addition_numbers edit.blobs) ≡ c.in_ok-number-2.field-0 =
+    sym (c.in_ok-number-2.ensures ∙ (λ i. first_twice (blob_numbers (c.blobs.ensures i)) (addition_numbers (c.as_slice-new_blobs.ensures i)))) in
+    let new : IsNew base edit = record { known = known ∙ c.in_default.is; tables = twice ∙ c.in_default-2.is; blobs = files ∙ c.in_default-3.is } in
+    let blobs : c.in_ok-blobs.blobs.items ≡ with_blobs edit.blobs base.blobs = c.in_ok-blobs.ensures ∙ (λ i. with_blobs (c.as_slice-new_blobs.ensures i) (c.blobs-2.ensures i)) in
+    let garbage : c.add_garbage.new.blobs.items ≡ with_garbage edit.garbage (with_blobs edit.blobs base.blobs) = c.in_default-add_garbage.ensures.added ∙ (λ i. with_garbage (c.as_slice-garbage.ensures i) (blobs i)) in
+    subst (Ascends blob_number) (sym (c.deref-5.ensures.value ∙ garbage)) (garbage_ascends edit.garbage (with_blobs edit.blobs base.blobs) (files_ascend base edit c.all_tables-tables.ensures.version c.requires new))
 
 pub from_parts-requires : goal.from_parts-requires
 from_parts-requires c =
