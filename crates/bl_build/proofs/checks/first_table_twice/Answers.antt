@@ -1,4 +1,4 @@
-use Rattle.std.proofs.Common.{◌≡◌, ℕ, Bool, true, false, length, refl, sym, ap, ◌∙◌, arith}
+use Rattle.std.proofs.Common.{◌≡◌, ℕ, Bool, true, false, length, sym, ap, ◌∙◌, arith}
 use Rattle.std.specs.Prelude.{◌==◌, ◌&&◌, ◌||◌, not}
 use Rattle.std.specs.List.{list_any}
 use Rattle.std.specs.Ordering.{nat_cmp}
@@ -7,7 +7,7 @@ use Rattle.std.proofs.lemmas.Bool.{eqb-true}
 use Rattle.std.proofs.lemmas.Grind.{common_steps}
 use Rattle.bl_edit.specs.declared.edit.NewTable.{NewTable}
 use Rattle.bl_build.specs.Versions.{table_numbers}
-use Rattle.bl_build.proofs.Searching.{any_mapped, none_twice, not_false, not_true, seeks_end, seeks_here, seeks_more, seeks_start}
+use Rattle.bl_build.proofs.Searching.{any_mapped, none_twice, seeks_end, seeks_here, seeks_more, seeks_start}
 use Rattle.bl_build.proofs.checks.first_table_twice.Goals as goal
 
 abbrev number_of : NewTable → ℕ

@@ -1,11 +1,11 @@
-use Rattle.std.proofs.Common.{◌≡◌, ℕ, ◌<◌, ◌≤◌, ◌∙◌, Bool, true, false, ltb-true, ltb-false, arith, rules, length, get_or, List, ap, sym}
+use Rattle.std.proofs.Common.{◌≡◌, ℕ, ◌≤◌, ◌∙◌, Bool, true, false, ltb-false, arith, rules, length, List, ap, sym}
 use Rattle.std.specs.Prelude.{map}
 use Rattle.std.specs.Bool.{OnTrue}
 use Rattle.std.specs.Borrow.{Bor}
 use Rattle.std.specs.List.{list_any}
 use Rattle.std.proofs.lemmas.List.Sorted.{IsPartitionPoint-from_clause}
 use Rattle.bl_edit.specs.declared.edit.NewTable.{NewTable}
-use Rattle.bl_build.specs.Chains.{IsChain, precedes}
+use Rattle.bl_build.specs.Chains.{precedes}
 use Rattle.bl_build.specs.Versions.{clash}
 use Rattle.bl_build.proofs.Chaining.{free_at, now_of, parted_by}
 use Rattle.bl_build.proofs.overlap.is_free.Goals as goal
