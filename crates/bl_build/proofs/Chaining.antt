@@ -4,20 +4,22 @@ use Rattle.std.specs.Prelude.{◌==◌, ◌&&◌, ◌||◌, not, map}
 use Rattle.std.specs.Bool.{OnTrue}
 use Rattle.std.specs.Borrow.{Bor}
 use Rattle.std.specs.List.{AllByRecursion, IsDistinct, list_any}
-use Rattle.std.specs.List.Sorted.{IsPermutation}
+use Rattle.std.specs.List.Sorted.{IsPartitionedBy, IsPermutation}
 use Rattle.std.specs.Ordering.{is_le, is_lt, ordering_reverse}
 use Rattle.std.specs.declared.cmp.Ordering.{Ordering}
 use Rattle.std.specs.declared.cmp.Ordering.TheVariants.{Less, Equal, Greater}
 use Rattle.std.specs.Cmp.Lexicographic.{nat_list_cmp_total}
-use Rattle.std.proofs.lemmas.Bool.{eq-eqb, eqb-true, cases_eq, false≢true, lt-ltb, ltb-true}
+use Rattle.std.proofs.lemmas.Bool.{eq-eqb, eqb-true, cases_eq, cases_lt, false≢true, lt-ltb, ltb-true}
 use Rattle.std.proofs.lemmas.List.{take_more}
-use Rattle.std.proofs.lemmas.Map.Keys.{IsDistinct-from_apart, IsDistinct-IsPermutation, IsDistinct-head}
-use Rattle.std.proofs.lemmas.List.Sorted.{IsPermutation-map, IsPermutation-middle, IsPermutation-sym}
+use Rattle.std.proofs.lemmas.Map.Keys.{IsDistinct-from_apart, IsDistinct-IsPermutation, IsDistinct-head, IsDistinct-tail}
+use Rattle.std.proofs.lemmas.List.Sorted.{IsPermutation-map, IsPermutation-sym, list_any-IsPermutation}
 use Rattle.bl_code.specs.Order.{bytes_cmp, bytes_le, bytes_lt}
 use Rattle.bl_edit.specs.declared.edit.NewTable.{NewTable}
-use Rattle.bl_build.specs.Chains.{AreProper, AreSteps, is_proper, precedes}
+use Rattle.bl_build.specs.Chains.{AreProper, AreSteps, IsChain, is_proper, precedes}
 use Rattle.bl_build.specs.Versions.{clash, overlap, first_user, last_user, first_overlap}
+use Rattle.bl_build.proofs.Files.{or_parts}
 use Rattle.bl_build.proofs.Levels.{both_true, not_eqb}
+use Rattle.bl_build.proofs.Placing.{all_from, get_mapped}
 use Rattle.bl_build.proofs.Searching.{drop_all}
 
 -- ---- byte strings
@@ -135,24 +137,39 @@ far xs d p s i (suc m) lt =
     let next : precedes (get_or xs j d) (get_or xs (suc j) d) ≡ true = s j d (omega arith) in
     subst (λ (k : ℕ). precedes (get_or xs i d) (get_or xs k d) ≡ true) e (over (get_or xs i d) (get_or xs j d) (get_or xs (suc j) d) (p j d (omega arith)) before next)
 
-pub chained_apart : (xs : List NewTable) → AreProper xs → AreSteps xs → IsDistinct clash xs
-chained_apart xs p s = IsDistinct-from_apart clash xs (λ i j d lt lt2.
+far_by : (xs : List NewTable) (d : NewTable) → IsChain xs → (i j : ℕ) → i < j → j < length xs → precedes (get_or xs i d) (get_or xs j d) ≡ true
+far_by xs d chain i j lt lt2 =
     let e : i + suc (j - suc i) ≡ j = omega arith in
-    let q : precedes (get_or xs i d) (get_or xs j d) ≡ true = subst (λ (k : ℕ). precedes (get_or xs i d) (get_or xs k d) ≡ true) e (far xs d p s i (j - suc i) (omega arith)) in
-    precedes_apart (get_or xs i d) (get_or xs j d) q)
+    subst (λ (k : ℕ). precedes (get_or xs i d) (get_or xs k d) ≡ true) e (far xs d chain.proper chain.steps i (j - suc i) (omega arith))
+
+chained_apart : (xs : List NewTable) → IsChain xs → IsDistinct clash xs
+chained_apart xs chain = IsDistinct-from_apart clash xs (λ i j d lt lt2. precedes_apart (get_or xs i d) (get_or xs j d) (far_by xs d chain i j lt lt2))
 
 -- ---- tables that do not clash are not refused
 
-none_clashes : (t : NewTable) (us : List NewTable) (vs : List NewTable) → AllByRecursion (λ u. clash t u ≡ false) (us ++ vs) → list_any (clash t) us ≡ false
-none_clashes t [] vs h = refl
-none_clashes t (u ∷ us) vs h = λ i. h.0 i || none_clashes t us vs h.1 i
+each_free : (t : NewTable) (us : List NewTable) → list_any (clash t) us ≡ false → AllByRecursion (λ u. clash t u ≡ false) us
+each_free t [] h = tt
+each_free t (u ∷ us) h = let both = or_parts (clash t u) (list_any (clash t) us) h in (both.0, each_free t us both.1)
 
-pub apart_passes : (there added : List NewTable) → IsDistinct clash (there ++ added) → first_overlap there added ≡ None
-apart_passes there [] h = refl
-apart_passes there (t ∷ ts) h =
-    let front : IsDistinct clash (t ∷ (there ++ ts)) = IsDistinct-IsPermutation clash clash_flips (there ++ t ∷ ts) (t ∷ (there ++ ts)) (IsPermutation-middle there t ts) h in
-    let free : list_any (clash t) there ≡ false = none_clashes t there ts (IsDistinct-head clash t (there ++ ts) front) in
-    ap (λ b. cond b (Some t.number) (first_overlap (t ∷ there) ts)) free ∙ apart_passes (t ∷ there) ts front
+-- with one more on the other side
+one_more : (t : NewTable) (there us : List NewTable) → AllByRecursion (λ u. clash t u ≡ false) us → AllByRecursion (λ u. list_any (clash u) there ≡ false) us
+    → AllByRecursion (λ u. list_any (clash u) (t ∷ there) ≡ false) us
+one_more t there [] h k = tt
+one_more t there (u ∷ us) h k = ((λ i. (clash_flips u t ∙ h.0) i || k.0 i), one_more t there us h.1 k.1)
+
+pub none_there : (us : List NewTable) → AllByRecursion (λ u. list_any (clash u) [] ≡ false) us
+none_there [] = tt
+none_there (u ∷ us) = (refl, none_there us)
+
+turned_round : (left added : List NewTable) → AllByRecursion (λ t. list_any (clash t) added ≡ false) left → AllByRecursion (λ u. list_any (clash u) left ≡ false) added
+turned_round [] added h = none_there added
+turned_round (t ∷ left) added h = one_more t left added (each_free t added h.0) (turned_round left added h.1)
+
+pub free_passes : (there added : List NewTable) → AllByRecursion (λ u. list_any (clash u) there ≡ false) added → IsDistinct clash added → first_overlap there added ≡ None
+free_passes there [] h d = refl
+free_passes there (t ∷ ts) h d =
+    ap (λ b. cond b (Some t.number) (first_overlap (t ∷ there) ts)) h.0
+    ∙ free_passes (t ∷ there) ts (one_more t there ts (IsDistinct-head clash t ts d) h.1) (IsDistinct-tail clash t ts d)
 
 pub level_0_passes : (there added : List NewTable) → AllByRecursion (λ t. t.level ≡ 0) added → first_overlap there added ≡ None
 level_0_passes there [] h = refl
@@ -217,7 +234,7 @@ searches_end left added i s le = s.reads ∙ ap (first_overlap s.done) (drop_all
 
 -- ---- lists of references
 
-abbrev now_of : Bor NewTable → NewTable
+abbrev pub now_of : Bor NewTable → NewTable
 now_of t = t.now
 
 get_now : (ts : List (Bor NewTable)) (k : ℕ) (d : NewTable) (e : Bor NewTable) → k < length ts → get_or (map (λ t. t.now) ts) k d ≡ (get_or ts k e).now
@@ -241,14 +258,58 @@ steps_now (t ∷ ts) h k d lt =
     let inside : suc k < length (t ∷ ts) = omega (arith, lt, map_length (t ∷ ts)) in
     (λ i. precedes (get_now (t ∷ ts) k d t (omega arith) i) (get_now (t ∷ ts) (suc k) d t inside i)) ∙ h k t inside
 
-pub chain_from : (b : Bool) (xs : List NewTable) → AreProper xs → OnTrue b (AreSteps xs) → OnTrue b (IsDistinct clash xs)
-chain_from true xs p s = chained_apart xs p s
+pub chain_from : (b : Bool) (xs : List NewTable) → AreProper xs → OnTrue b (AreSteps xs) → OnTrue b (IsChain xs)
+chain_from true xs p s = record { proper = p; steps = s }
 chain_from false xs p s = tt
 
--- a list of references that are in another order
-pub sorted_passes : (b : Bool) (left added : List NewTable) (before after : List (Bor NewTable)) → map (λ t. t.now) before ≡ left ++ added → IsPermutation before after
-    → OnTrue b (IsDistinct clash (map (λ t. t.now) after)) → OnTrue b (first_overlap left added ≡ None)
-sorted_passes false left added before after e p h = tt
-sorted_passes true left added before after e p h =
-    let back : IsPermutation (map now_of after) (map now_of before) = IsPermutation-sym (map now_of before) (map now_of after) (IsPermutation-map now_of before after p) in
-    apart_passes left added (subst (IsDistinct clash) e (IsDistinct-IsPermutation clash clash_flips (map now_of after) (map now_of before) back h))
+-- those that precede a table stand in front of a chain
+pub parted_by : (ts : List (Bor NewTable)) (t : NewTable) → IsChain (map now_of ts) → IsPartitionedBy (λ u. precedes u.now t) ts
+parted_by ts t chain i j d le lt h =
+    let xs : List NewTable = map now_of ts in
+    let inside : j < length xs = omega (arith, lt, map_length ts) in
+    let there : precedes (get_or xs j d.now) t ≡ true = ap (λ u. precedes u t) (get_mapped now_of ts j d) ∙ h in
+    elim (cases_lt i j) [
+      | inl less ↦
+          ap (λ u. precedes u t) (sym (get_mapped now_of ts i d))
+          ∙ over (get_or xs i d.now) (get_or xs j d.now) t (chain.proper j d.now inside) (far_by xs d.now chain i j less inside) there
+      | inr more ↦
+          let e : j ≡ i = omega arith in
+          subst (λ (k : ℕ). precedes (get_or ts k d).now t ≡ true) e h
+    ]
+
+none_each : (t : NewTable) (ts : List (Bor NewTable)) (d : Bor NewTable) → ((k : ℕ) → k < length ts → clash t (get_or ts k d).now ≡ false) → list_any (clash t) (map now_of ts) ≡ false
+none_each t [] d h = refl
+none_each t (u ∷ ts) d h = λ i. h 0 (omega arith) i || none_each t ts d (λ k lt. h (suc k) (omega arith)) i
+
+-- a table behind the first ones of a chain and in front of the rest
+pub free_at : (ts : List (Bor NewTable)) (t : NewTable) (at : ℕ) (d : Bor NewTable) → IsChain (map now_of ts) → ((k : ℕ) → k < at → precedes (get_or ts k d).now t ≡ true)
+    → (at < length ts → precedes t (get_or ts at d).now ≡ true) → list_any (clash t) (map now_of ts) ≡ false
+free_at ts t at d chain below above = none_each t ts d (λ k lt. elim (cases_lt k at) [
+  | inl less ↦ clash_flips t (get_or ts k d).now ∙ precedes_apart (get_or ts k d).now t (below k less)
+  | inr more ↦ precedes_apart t (get_or ts k d).now (behind k lt more)
+])
+  where
+    behind : (k : ℕ) → k < length ts → at ≤ k → precedes t (get_or ts k d).now ≡ true
+    behind k lt le =
+        let xs : List NewTable = map now_of ts in
+        let inside : k < length (map now_of ts) = omega (arith, lt, map_length ts) in
+        elim (cases_lt at k) [
+          | inl less ↦
+              ap (precedes t) (sym (get_mapped now_of ts k d))
+              ∙ over t (get_or xs at d.now) (get_or xs k d.now) (chain.proper at d.now (omega arith)) (ap (precedes t) (get_mapped now_of ts at d) ∙ above (omega arith)) (far_by xs d.now chain at k less inside)
+          | inr more ↦
+              let e : at ≡ k = omega arith in
+              subst (λ (j : ℕ). precedes t (get_or ts j d).now ≡ true) e (above (omega arith))
+        ]
+
+-- the added tables in another order, in which they are a chain
+pub freed_passes : (b : Bool) (left added : List NewTable) (before after : List (Bor NewTable)) → map now_of before ≡ added → IsPermutation before after → IsChain (map now_of after)
+    → OnTrue b (AllByRecursion (λ t. list_any (clash t) (map now_of after) ≡ false) left) → OnTrue b (first_overlap left added ≡ None)
+freed_passes false left added before after e p chain h = tt
+freed_passes true left added before after e p chain h =
+    let to : IsPermutation added (map now_of after) = subst (λ (ts : List NewTable). IsPermutation ts (map now_of after)) e (IsPermutation-map now_of before after p) in
+    let back : IsPermutation (map now_of after) added = IsPermutation-sym added (map now_of after) to in
+    let distinct : IsDistinct clash added = IsDistinct-IsPermutation clash clash_flips (map now_of after) added back (chained_apart (map now_of after) chain) in
+    let free : AllByRecursion (λ t. list_any (clash t) added ≡ false) left =
+    all_from (λ t. list_any (clash t) (map now_of after) ≡ false) (λ t. list_any (clash t) added ≡ false) left (λ t k. list_any-IsPermutation (clash t) added (map now_of after) to ∙ k) h in
+    free_passes left added (turned_round left added free) distinct

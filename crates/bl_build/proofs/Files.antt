@@ -1,41 +1,18 @@
 -- Blob files by their numbers.
-use Rattle.std.proofs.Common.{◌≡◌, ◌≢◌, ℕ, zero, suc, ◌+◌, ◌<◌, ◌≤◌, nat_lt, Bool, true, false, cond, List, [], ◌∷◌, ◌++◌, length, drop, drop-cons, get_or, set, refl, sym, ◌∙◌, ap, subst, arith, add-one, append_assoc}
-use Rattle.std.specs.Prelude.{◌==◌, ◌&&◌, ◌||◌, not, map, filter, Some, None}
+use Rattle.std.proofs.Common.{◌≡◌, ◌≢◌, ℕ, zero, suc, ◌+◌, ◌<◌, ◌≤◌, nat_lt, Bool, true, false, cond, List, [], ◌∷◌, ◌++◌, length, take, drop, drop-cons, get_or, set, refl, sym, ◌∙◌, ap, subst, arith, inl, inr, get_or-set_same, get_or-set_other, add-one, append_assoc}
+use Rattle.std.specs.Prelude.{◌==◌, ◌&&◌, ◌||◌, not, map, filter, count_by, Some, None}
 use Rattle.std.specs.List.{AllByRecursion, list_any}
 use Rattle.std.proofs.lemmas.List.{append-nil}
-use Rattle.std.proofs.lemmas.Bool.{false≢true, eq-eqb, lt-ltb}
+use Rattle.std.proofs.lemmas.Bool.{cases_eq, cases_lt, false≢true, eq-eqb, lt-ltb}
+use Rattle.std.proofs.lemmas.List.Sums.{count_by_more_no, count_by_more_yes}
 use Rattle.bl_edit.specs.declared.edit.BlobGarbage.{BlobGarbage}
 use Rattle.bl_build.specs.declared.meta.BlobMeta.{BlobMeta}
 use Rattle.bl_build.specs.Listing.{Ascends, blob_number}
 use Rattle.bl_edit.specs.declared.edit.NewTable.{NewTable}
 use Rattle.bl_build.specs.Versions.{linked_to, with_links, add_garbage, with_garbage, first_over, is_over, is_spent, from_linked, still_needed}
 use Rattle.bl_build.proofs.Levels.{not_eqb}
-use Rattle.bl_build.proofs.Placing.{all_from, all_get}
-use Rattle.bl_build.proofs.Searching.{drop_all}
-
--- none of these has the number
-absent_all : (number : ℕ) (bs : List BlobMeta) → AllByRecursion (λ b. b.number ≢ number) bs → list_any (λ b. b.number == number) bs ≡ false
-absent_all number [] h = refl
-absent_all number (b ∷ bs) h = λ i. not_eqb b.number number h.0 i || absent_all number bs h.1 i
-
-pub absent : (number at : ℕ) (bs : List BlobMeta) (d : BlobMeta) → Ascends blob_number bs → ((k : ℕ) (e : BlobMeta) → k < at → k < length bs → (get_or bs k e).number < number)
-    → (at < length bs → number < (get_or bs at d).number) → list_any (λ b. b.number == number) bs ≡ false
-absent number at [] d h below above = refl
-absent number zero (b ∷ bs) d h below above =
-    let less : number < b.number = above (omega arith) in
-    absent_all number (b ∷ bs) ((λ e. omega (arith, e)), all_from (λ c. b.number < c.number) (λ c. c.number ≢ number) bs (λ c lt e. omega (arith, e)) h.0)
-absent number (suc at) (b ∷ bs) d h below above =
-    let less : b.number < number = below 0 b (omega arith) (omega arith) in
-    λ i. not_eqb b.number number (λ e. omega (arith, e)) i || absent number at bs d h.1 (λ k e lt lt2. below (suc k) e (omega arith) (omega arith)) (λ lt. above (omega arith)) i
-
-pub or_right_true : (a b : Bool) → b ≡ true → (a || b) ≡ true
-or_right_true true b h = refl
-or_right_true false b h = h
-
-pub present : (number i : ℕ) (bs : List BlobMeta) (d : BlobMeta) → i < length bs → (get_or bs i d).number ≡ number → list_any (λ b. b.number == number) bs ≡ true
-present number i [] d lt e = absurd (omega arith)
-present number zero (b ∷ bs) d lt e = ap (λ t. t || list_any (λ c. c.number == number) bs) (eq-eqb b.number number e)
-present number (suc i) (b ∷ bs) d lt e = or_right_true (b.number == number) (list_any (λ c. c.number == number) bs) (present number i bs d (omega arith) e)
+use Rattle.bl_build.proofs.Placing.{all_from, all_get, strict_at}
+use Rattle.bl_build.proofs.Searching.{drop_all, drop_step, present}
 
 -- ---- garbage
 
@@ -131,9 +108,6 @@ pub record Joins (old : List BlobMeta) (garbage : List BlobGarbage) (i : ℕ) (n
 pub joins_start : (old : List BlobMeta) (garbage : List BlobGarbage) → Ascends blob_number old → Joins old garbage 0 old
 joins_start old garbage h = record { ascends = h; over = refl; added = refl }
 
-drop_step : {A : Type 0} (xs : List A) (i : ℕ) (x d : A) → i < length xs → x ≡ get_or xs i d → drop i xs ≡ x ∷ drop (i + 1) xs
-drop_step xs i x d lt is = drop-cons xs i d lt ∙ (λ j. sym is j ∷ drop (sym (add-one i) j) xs)
-
 -- one record more: of a file that is not there, and of one that is
 pub joins_none : (old : List BlobMeta) (garbage : List BlobGarbage) (i : ℕ) (now : List BlobMeta) (g e : BlobGarbage) → Joins old garbage i now → i < length garbage → g ≡ get_or garbage i e
     → list_any (λ b. b.number == g.number) now ≡ false → Joins old garbage (i + 1) now
@@ -227,3 +201,51 @@ keeps_more tables xs i x d b reached next t kept after h lt is linked e f g =
     let step : (reached || not (b.linked == 0)) ≡ next = sym e in
     let same : cond ((reached || not (b.linked == 0)) && not_spent b) (kept ++ b ∷ []) kept ≡ after = ap (λ r. cond (r && not_spent b) (kept ++ b ∷ []) kept) step ∙ ap (λ u. cond u (kept ++ b ∷ []) kept) f ∙ sym g in
     record { same = one.same ∙ (λ j. same j ++ rest_of (step j) rest) }
+
+-- ---- how many tables are linked to each file, by the files' places
+
+abbrev pub links_at : List NewTable → List BlobMeta → ℕ → BlobMeta → ℕ
+links_at tables blobs k d = count_by (λ t. t.oldest_blob == (get_or blobs k d).number) tables
+
+abbrev pub Counts : List NewTable → List BlobMeta → List ℕ → Type 0
+Counts tables blobs links = (k : ℕ) (d : BlobMeta) → k < length blobs → get_or links k 0 ≡ links_at tables blobs k d
+
+pub get_any : {A : Type 0} (xs : List A) (i : ℕ) (d e : A) → i < length xs → get_or xs i d ≡ get_or xs i e
+get_any [] i d e lt = absurd (omega arith)
+get_any (x ∷ xs) zero d e lt = refl
+get_any (x ∷ xs) (suc i) d e lt = get_any xs i d e (omega arith)
+
+-- a table that is linked to another file
+link_other : (tables : List NewTable) (blobs : List BlobMeta) (i k : ℕ) (t d : NewTable) (e : BlobMeta) → i < length tables → t ≡ get_or tables i d → t.oldest_blob ≢ (get_or blobs k e).number
+    → links_at (take (i + 1) tables) blobs k e ≡ links_at (take i tables) blobs k e
+link_other tables blobs i k t d e lt is other =
+    let n : ℕ = (get_or blobs k e).number in
+    count_by_more_no (λ u. u.oldest_blob == n) tables i d lt (ap (λ u. u.oldest_blob == n) (sym is) ∙ not_eqb t.oldest_blob n other)
+
+pub counts_none : (tables : List NewTable) (blobs : List BlobMeta) (links : List ℕ) (i : ℕ) (t d : NewTable) → i < length tables → t ≡ get_or tables i d → list_any (λ b. b.number == t.oldest_blob) blobs ≡ false
+    → Counts (take i tables) blobs links → Counts (take (i + 1) tables) blobs links
+counts_none tables blobs links i t d lt is none h k e lt2 =
+    h k e lt2 ∙ sym (link_other tables blobs i k t d e lt is (λ same. false≢true (sym none ∙ present blob_number t.oldest_blob k blobs e lt2 (sym same))))
+
+pub counts_more : (tables : List NewTable) (blobs : List BlobMeta) (links : List ℕ) (i at v : ℕ) (t d : NewTable) → i < length tables → t ≡ get_or tables i d → Ascends blob_number blobs → length links ≡ length blobs
+    → at < length blobs → ((e : BlobMeta) → (get_or blobs at e).number ≡ t.oldest_blob) → v ≡ get_or links at 0 + 1 → Counts (take i tables) blobs links → Counts (take (i + 1) tables) blobs (set links at v)
+counts_more tables blobs links i at v t d lt is ascends same within number more h k e lt2 = elim (cases_eq k at) [
+  | inl here ↦
+      let n : ℕ = (get_or blobs at e).number in
+      let one : links_at (take (i + 1) tables) blobs at e ≡ links_at (take i tables) blobs at e + 1 =
+      count_by_more_yes (λ u. u.oldest_blob == n) tables i d lt (ap (λ u. u.oldest_blob == n) (sym is) ∙ eq-eqb t.oldest_blob n (sym (number e))) in
+      subst (λ (j : ℕ). get_or (set links at v) j 0 ≡ links_at (take (i + 1) tables) blobs j e) (sym here)
+      (get_or-set_same links at v 0 (omega arith) ∙ more ∙ ap (λ m. m + 1) (h at e within) ∙ sym one)
+  | inr there ↦
+      let other : t.oldest_blob ≢ (get_or blobs k e).number = λ q.
+      elim (cases_lt k at) [
+        | inl less ↦
+            let below : (get_or blobs k e).number < (get_or blobs at e).number = strict_at blob_number blobs ascends k at e less within in
+            omega (arith, below, number e, q)
+        | inr ge ↦
+            let after : at < k = omega (arith, there, ge) in
+            let above : (get_or blobs at e).number < (get_or blobs k e).number = strict_at blob_number blobs ascends at k e after lt2 in
+            omega (arith, above, number e, q)
+      ] in
+      get_or-set_other links at k v 0 there ∙ h k e lt2 ∙ sym (link_other tables blobs i k t d e lt is other)
+]

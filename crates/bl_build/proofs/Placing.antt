@@ -71,6 +71,13 @@ ascends_at key (x ∷ xs) h zero (suc j) d le lt =
 ascends_at key (x ∷ xs) h (suc i) zero d le lt = absurd (omega arith)
 ascends_at key (x ∷ xs) h (suc i) (suc j) d le lt = ascends_at key xs h.1 i j d (omega arith) (omega arith)
 
+pub strict_at : {A : Type 0} (key : A → ℕ) (xs : List A) → Ascends key xs → (i j : ℕ) (d : A) → i < j → j < length xs → key (get_or xs i d) < key (get_or xs j d)
+strict_at key [] h i j d less lt = absurd (omega arith)
+strict_at key (x ∷ xs) h zero zero d less lt = absurd (omega arith)
+strict_at key (x ∷ xs) h zero (suc j) d less lt = all_get (λ y. key x < key y) xs j d h.0 (omega arith)
+strict_at key (x ∷ xs) h (suc i) zero d less lt = absurd (omega arith)
+strict_at key (x ∷ xs) h (suc i) (suc j) d less lt = strict_at key xs h.1 i j d (omega arith) (omega arith)
+
 -- where an item is placed: behind those below it
 pub placed_is_insert : {A : Type 0} (key : A → ℕ) (x : A) (ys : List A) (i : ℕ) → i ≤ length ys → ((k : ℕ) → k < i → key (get_or ys k x) < key x)
     → (i < length ys → key x ≤ key (get_or ys i x)) → placed key x ys ≡ insert ys i x

@@ -15,8 +15,8 @@ use Rattle.bl_build.specs.declared.meta.Standing.{Standing}
 use Rattle.bl_build.specs.Listing.{Ascends, Listing, all_placed, blob_number, nothing, placed, table_rank}
 use Rattle.bl_build.specs.Snapshots.{addition_of, garbage_of, has_garbage, snapshot}
 use Rattle.bl_build.specs.Versions.{IsVersion, add_garbage, addition_numbers, after, apply, first_over, first_twice, first_unknown_blob, has_same_number, linked_to, new_blob, still_needed, table_numbers, with_blobs, with_garbage, with_links, with_tables}
-use Rattle.bl_build.proofs.Chaining.{apart_passes, none_and}
-use Rattle.bl_build.proofs.Files.{ascends_more, other_files, over_in, or_right_true}
+use Rattle.bl_build.proofs.Chaining.{free_passes, none_and, none_there}
+use Rattle.bl_build.proofs.Files.{ascends_more, other_files, over_in}
 use Rattle.bl_build.proofs.Keeping.{IsWithin, within_new}
 use Rattle.bl_build.proofs.Levels.{both_true, not_eqb}
 use Rattle.bl_build.proofs.Placing.{all_filter, all_from, all_map}
@@ -97,6 +97,10 @@ fresh_above n (b ∷ bs) h = (h.0, fresh_above n bs h.1)
 fresh_ascends : (bs : List BlobMeta) → Ascends blob_number bs → Ascends blob_number (fresh bs)
 fresh_ascends [] h = tt
 fresh_ascends (b ∷ bs) h = (fresh_above b.number bs h.0, fresh_ascends bs h.1)
+
+or_right_true : (a b : Bool) → b ≡ true → (a || b) ≡ true
+or_right_true true b h = refl
+or_right_true false b h = h
 
 all_there : (bs : List BlobMeta) → AllByRecursion (λ b. list_any (λ c. c.number == b.number) (fresh bs) ≡ true) bs
 all_there [] = tt
@@ -213,7 +217,7 @@ restored v s h =
     })
     ∙ ap (λ bs. record { tables = v.tables; blobs = still_needed (with_links v.tables bs) }) back.garbage
     ∙ ap (λ bs. record { tables = v.tables; blobs = still_needed bs }) (linked_again v.tables v.blobs h.linked) ∙ ap (λ bs. record { tables = v.tables; blobs = bs }) h.needed in
-    step_7 nothing e (record { known = refl; tables = tables_once [] v.tables h.tables_once tt; blobs = files_once [] v.blobs h.blobs_ascend tt }) (apart_passes [] v.tables h.tables_apart)
+    step_7 nothing e (record { known = refl; tables = tables_once [] v.tables h.tables_once tt; blobs = files_once [] v.blobs h.blobs_ascend tt }) (free_passes [] v.tables (none_there v.tables) h.tables_apart)
     (ap (λ bs. first_unknown_blob bs (garbages v.blobs)) files ∙ files_known v.blobs) (ap (λ bs. first_over bs (garbages v.blobs)) files ∙ back.over)
     ∙ ap Ok done
 

@@ -1,14 +1,17 @@
 -- The first item at fault.
-use Rattle.std.proofs.Common.{◌≡◌, ℕ, zero, suc, ◌+◌, ◌^◌, ◌<◌, ◌≤◌, Bool, true, false, cond, List, [], ◌∷◌, length, take, drop, drop-cons, get_or, refl, sym, ◌∙◌, ap, arith, inl, inr, add-one}
-use Rattle.std.specs.Prelude.{◌==◌, ◌&&◌, ◌||◌, not, find, IsTrue, Option, Some, None}
+use Rattle.std.proofs.Common.{◌≡◌, ◌≢◌, ℕ, zero, suc, ◌+◌, ◌^◌, ◌<◌, ◌≤◌, nat_lt, Bool, true, false, cond, List, [], ◌∷◌, length, take, drop, drop-cons, get_or, refl, sym, ◌∙◌, ap, arith, inl, inr, add-one}
+use Rattle.std.specs.Prelude.{◌==◌, ◌&&◌, ◌||◌, not, find, map, IsTrue, Option, Some, None}
 use Rattle.std.specs.List.{AllByRecursion, list_any}
-use Rattle.std.proofs.lemmas.Bool.{eq-eqb, eqb-true, cases_eq, false≢true}
+use Rattle.std.specs.List.Sorted.{IsPartitionPoint}
+use Rattle.std.proofs.lemmas.Bool.{eq-eqb, eqb-true, cases_eq, cases_lt, false≢true, ltb-true, ltb-false}
+use Rattle.std.proofs.lemmas.List.Folds.{list_any_at}
 use Rattle.bl_edit.specs.declared.edit.DeletedTable.{DeletedTable}
 use Rattle.bl_edit.specs.declared.edit.NewTable.{NewTable}
 use Rattle.bl_edit.specs.Bounds.{deletion_fits, table_fits, is_level, is_number}
-use Rattle.bl_build.specs.Listing.{rank, table_rank}
+use Rattle.bl_build.specs.Listing.{Ascends, rank, table_rank}
 use Rattle.bl_build.specs.Versions.{first_twice, is_deleted}
 use Rattle.bl_build.proofs.Levels.{both_true, fits_number, not_eqb, number_fits}
+use Rattle.bl_build.proofs.Placing.{all_from}
 
 -- ---- a search that goes on
 
@@ -68,33 +71,44 @@ any_deleted t (d ∷ ds) h k = λ i. (flip (rank d.level d.number) (table_rank t
     flip : (a b : ℕ) → (a == b) ≡ (b == a)
     flip a b = elim (cases_eq a b) [ inl e ↦ eq-eqb a b e ∙ sym (eq-eqb b a (sym e)) | inr n ↦ not_eqb a b n ∙ sym (not_eqb b a (λ e. n (sym e))) ]
 
+-- ---- an item by its key, where the keys ascend
+
+absent_all : {A : Type 0} (key : A → ℕ) (r : ℕ) (xs : List A) → AllByRecursion (λ x. key x ≢ r) xs → list_any (λ x. key x == r) xs ≡ false
+absent_all key r [] h = refl
+absent_all key r (x ∷ xs) h = λ i. not_eqb (key x) r h.0 i || absent_all key r xs h.1 i
+
+absent : {A : Type 0} (key : A → ℕ) (r at : ℕ) (xs : List A) (d : A) → Ascends key xs → ((k : ℕ) (e : A) → k < at → k < length xs → key (get_or xs k e) < r)
+    → (at < length xs → r < key (get_or xs at d)) → list_any (λ x. key x == r) xs ≡ false
+absent key r at [] d h below above = refl
+absent key r zero (x ∷ xs) d h below above =
+    let less : r < key x = above (omega arith) in
+    absent_all key r (x ∷ xs) ((λ e. omega (arith, e)), all_from (λ y. key x < key y) (λ y. key y ≢ r) xs (λ y lt e. omega (arith, e)) h.0)
+absent key r (suc at) (x ∷ xs) d h below above =
+    let less : key x < r = below 0 x (omega arith) (omega arith) in
+    λ i. not_eqb (key x) r (λ e. omega (arith, e)) i || absent key r at xs d h.1 (λ k e lt lt2. below (suc k) e (omega arith) (omega arith)) (λ lt. above (omega arith)) i
+
+-- none, where that at the place that a search finds is another
+pub none_at : {A : Type 0} (key : A → ℕ) (r at : ℕ) (xs : List A) (d : A) → Ascends key xs → IsPartitionPoint (λ x. nat_lt (key x) r ≡ true) (λ x. nat_lt (key x) r ≡ false) xs at
+    → (at < length xs → key (get_or xs at d) ≢ r) → list_any (λ x. key x == r) xs ≡ false
+none_at key r at xs d h point other =
+    absent key r at xs d h (λ k e lt lt2. ltb-true (key (get_or xs k e)) r (point.0 k e (omega arith) lt))
+    (λ lt.
+    let low : r ≤ key (get_or xs at d) = ltb-false (key (get_or xs at d)) r (point.1 at d (omega arith) lt) in
+    elim (cases_lt r (key (get_or xs at d))) [ inl less ↦ less | inr more ↦ absurd (other lt (omega arith)) ])
+
+pub present : {A : Type 0} (key : A → ℕ) (r i : ℕ) (xs : List A) (d : A) → i < length xs → key (get_or xs i d) ≡ r → list_any (λ x. key x == r) xs ≡ true
+present key r i xs d lt e = list_any_at (λ x. key x == r) xs i d lt (eq-eqb (key (get_or xs i d)) r e)
+
+-- so the test of the item at that place is that of all
+pub test_at : {A : Type 0} (key : A → ℕ) (r at : ℕ) (xs : List A) (x : A) → Ascends key xs → IsPartitionPoint (λ y. nat_lt (key y) r ≡ true) (λ y. nat_lt (key y) r ≡ false) xs at → at < length xs
+    → x ≡ get_or xs at x → (key x == r) ≡ list_any (λ y. key y == r) xs
+test_at key r at xs x h point lt is =
+    elim (cases_eq (key x) r) [
+      | inl e ↦ eq-eqb (key x) r e ∙ sym (present key r at xs x lt (ap key (sym is) ∙ e))
+      | inr n ↦ not_eqb (key x) r n ∙ sym (none_at key r at xs x h point (λ lt2 e. n (ap key is ∙ e)))
+    ]
+
 -- ---- numbers that come twice
-
-pub record Seeks (there added : List ℕ) (i : ℕ) (contains : ℕ → Bool) : Type 0 where
-  pub done : List ℕ
-  pub reads : first_twice there added ≡ first_twice done (drop i added)
-  pub seen : (q : ℕ) → contains q ≡ list_any (λ m. m == q) done
-
-pub seeks_start : (there added : List ℕ) (contains : ℕ → Bool) → ((q : ℕ) → contains q ≡ list_any (λ m. m == q) there) → Seeks there added 0 contains
-seeks_start there added contains h = record { done = there; reads = refl; seen = h }
-
-seek_step : (done added : List ℕ) (i : ℕ) → i < length added → first_twice done (drop i added) ≡ first_twice done (get_or added i 0 ∷ drop (i + 1) added)
-seek_step done added i lt = ap (first_twice done) (drop-cons added i 0 lt ∙ ap (λ k. get_or added i 0 ∷ drop k added) (sym (add-one i)))
-
-pub seeks_here : (there added : List ℕ) (i : ℕ) (contains : ℕ → Bool) → Seeks there added i contains → i < length added → contains (get_or added i 0) ≡ true → first_twice there added ≡ Some (get_or added i 0)
-seeks_here there added i contains s lt h =
-    let n : ℕ = get_or added i 0 in
-    s.reads ∙ seek_step s.done added i lt ∙ ap (λ t. cond t (Some n) (first_twice (n ∷ s.done) (drop (i + 1) added))) (sym (s.seen n) ∙ h)
-
-pub seeks_more : (there added : List ℕ) (i : ℕ) (contains more : ℕ → Bool) → Seeks there added i contains → i < length added → contains (get_or added i 0) ≡ false
-    → ((q : ℕ) → more q ≡ ((get_or added i 0 == q) || contains q)) → Seeks there added (i + 1) more
-seeks_more there added i contains more s lt h k =
-    let n : ℕ = get_or added i 0 in
-    record {
-      done = n ∷ s.done;
-      reads = s.reads ∙ seek_step s.done added i lt ∙ ap (λ t. cond t (Some n) (first_twice (n ∷ s.done) (drop (i + 1) added))) (sym (s.seen n) ∙ h);
-      seen = λ q. k q ∙ ap (λ t. (n == q) || t) (s.seen q);
-    }
 
 pub drop_all : {A : Type 0} (i : ℕ) (xs : List A) → length xs ≤ i → drop i xs ≡ []
 drop_all zero [] le = refl
@@ -102,8 +116,47 @@ drop_all zero (x ∷ xs) le = absurd (omega arith)
 drop_all (suc i) [] le = refl
 drop_all (suc i) (x ∷ xs) le = drop_all i xs (omega arith)
 
-pub seeks_end : (there added : List ℕ) (i : ℕ) (contains : ℕ → Bool) → Seeks there added i contains → length added ≤ i → first_twice there added ≡ None
-seeks_end there added i contains s le = s.reads ∙ ap (first_twice s.done) (drop_all i added le)
+pub drop_step : {A : Type 0} (xs : List A) (i : ℕ) (x d : A) → i < length xs → x ≡ get_or xs i d → drop i xs ≡ x ∷ drop (i + 1) xs
+drop_step xs i x d lt is = drop-cons xs i d lt ∙ (λ j. sym is j ∷ drop (sym (add-one i) j) xs)
+
+-- What is there or came before makes up `done`, and `seen` says of each number that is added whether it is in it.
+pub record Seeks {A : Type 0} (number : A → ℕ) (there : List ℕ) (added : List A) (i : ℕ) (seen : ℕ → Bool) : Type 0 where
+  pub done : List ℕ
+  pub reads : first_twice there (map number added) ≡ first_twice done (map number (drop i added))
+  pub sees : (q : ℕ) → list_any (λ x. number x == q) added ≡ true → seen q ≡ list_any (λ m. m == q) done
+
+module _ {A : Type 0} (number : A → ℕ) (there : List ℕ) (added : List A) where
+  pub seeks_start : (seen : ℕ → Bool) → ((q : ℕ) → list_any (λ x. number x == q) added ≡ true → seen q ≡ list_any (λ m. m == q) there) → Seeks number there added 0 seen
+  seeks_start seen h = record { done = there; reads = refl; sees = h }
+
+  seek_step : (i : ℕ) (seen : ℕ → Bool) (x d : A) (t : Bool) → (s : Seeks number there added i seen) → i < length added → x ≡ get_or added i d → seen (number x) ≡ t
+      → first_twice there (map number added) ≡ cond t (Some (number x)) (first_twice (number x ∷ s.done) (map number (drop (i + 1) added)))
+  seek_step i seen x d t s lt is h =
+      let member : list_any (λ y. number y == number x) added ≡ true = present number (number x) i added d lt (ap number (sym is)) in
+      s.reads ∙ ap (λ ys. first_twice s.done (map number ys)) (drop_step added i x d lt is)
+      ∙ ap (λ u. cond u (Some (number x)) (first_twice (number x ∷ s.done) (map number (drop (i + 1) added)))) (sym (s.sees (number x) member) ∙ h)
+
+  pub seeks_here : (i : ℕ) (seen : ℕ → Bool) (x d : A) → Seeks number there added i seen → i < length added → x ≡ get_or added i d → seen (number x) ≡ true → first_twice there (map number added) ≡ Some (number x)
+  seeks_here i seen x d s lt is h = seek_step i seen x d true s lt is h
+
+  pub seeks_more : (i : ℕ) (seen more : ℕ → Bool) (x d : A) → Seeks number there added i seen → i < length added → x ≡ get_or added i d → seen (number x) ≡ false
+      → ((q : ℕ) → more q ≡ ((number x == q) || seen q)) → Seeks number there added (i + 1) more
+  seeks_more i seen more x d s lt is h k = record {
+    done = number x ∷ s.done;
+    reads = seek_step i seen x d false s lt is h;
+    sees = λ q member. k q ∙ ap (λ t. (number x == q) || t) (s.sees q member);
+  }
+
+  pub seeks_end : (i : ℕ) (seen : ℕ → Bool) → Seeks number there added i seen → length added ≤ i → first_twice there (map number added) ≡ None
+  seeks_end i seen s le = s.reads ∙ ap (λ ys. first_twice s.done (map number ys)) (drop_all i added le)
+
+pub none_twice : {A : Type 0} (number : A → ℕ) (there : List ℕ) (added : List A) → length added ≡ 0 → first_twice there (map number added) ≡ None
+none_twice number there [] e = refl
+none_twice number there (x ∷ added) e = absurd (omega arith)
+
+pub any_mapped : {A : Type 0} (number : A → ℕ) (xs : List A) (q : ℕ) → list_any (λ m. m == q) (map number xs) ≡ list_any (λ x. number x == q) xs
+any_mapped number [] q = refl
+any_mapped number (x ∷ xs) q = ap (λ b. (number x == q) || b) (any_mapped number xs q)
 
 pub not_false : (b : Bool) → not b ≡ false → b ≡ true
 not_false true h = refl

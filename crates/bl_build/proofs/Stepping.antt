@@ -17,6 +17,7 @@ use Rattle.bl_build.proofs.Chaining.{clash_flips}
 use Rattle.bl_build.proofs.Keeping.{distinct_all, distinct_filter, links_after, none_first, number_flips, overlap_passes, still_again, twice_passes, within_after}
 use Rattle.bl_build.proofs.Levels.{fits_number}
 use Rattle.bl_build.proofs.Placing.{all_all_placed, all_filter, any_placed, ascends_filter, ascends_placed}
+use Rattle.bl_build.proofs.Searching.{any_mapped}
 
 -- ---- the refusals, one after the other
 
@@ -85,10 +86,6 @@ once_ascends P key number other (x ∷ xs) ys there p q same once h =
     once_ascends P key number other xs (placed key x ys) (number x ∷ there) p.1 (all_all_placed P key (x ∷ []) ys (p.0, tt) q)
     (λ r. ap (λ b. (number x == r) || b) (same r) ∙ sym (any_placed (λ y. number y == r) key x ys)) t.1 (ascends_placed key x ys h keys)
 
-same_mapped : {A : Type 0} (number : A → ℕ) (ys : List A) (q : ℕ) → list_any (λ m. m == q) (map number ys) ≡ list_any (λ y. number y == q) ys
-same_mapped number [] q = refl
-same_mapped number (y ∷ ys) q = ap (λ b. (number y == q) || b) (same_mapped number ys q)
-
 abbrev Fits : NewTable → Type 0
 Fits t = IsTrue (table_fits t)
 
@@ -110,12 +107,12 @@ tables_ascend base e v h s =
     let a : x.number < 2 ^ 64 = fits_number x px in
     let b : y.number < 2 ^ 64 = fits_number y py in
     n (omega (arith, k)))
-    e.added left (table_numbers left) h.added (all_filter Fits _ base.tables v.tables_fit) (same_mapped (λ t. t.number) left) s.tables (left_ascends base e v)
+    e.added left (table_numbers left) h.added (all_filter Fits _ base.tables v.tables_fit) (any_mapped (λ t. t.number) left) s.tables (left_ascends base e v)
 
 pub files_ascend : (base : Listing) (e : Edit) → IsVersion base → IsEdit e → IsNew base e → Ascends blob_number (with_blobs e.blobs base.blobs)
 files_ascend base e v h s =
     once_ascends (λ (b : BlobMeta). Unit {0}) blob_number blob_number (λ x y px py n. n) (map new_blob e.blobs) base.blobs (blob_numbers base.blobs) (any_unit (map new_blob e.blobs)) (any_unit base.blobs)
-    (same_mapped blob_number base.blobs) (ap (first_twice (blob_numbers base.blobs)) (new_numbers e.blobs) ∙ s.blobs) v.blobs_ascend
+    (any_mapped blob_number base.blobs) (ap (first_twice (blob_numbers base.blobs)) (new_numbers e.blobs) ∙ s.blobs) v.blobs_ascend
   where
     any_unit : (bs : List BlobMeta) → AllByRecursion (λ (b : BlobMeta). Unit {0}) bs
     any_unit [] = tt
@@ -123,7 +120,7 @@ files_ascend base e v h s =
 
 -- ---- what later steps keep
 
-garbage_ascends : (gs : List BlobGarbage) (bs : List BlobMeta) → Ascends blob_number bs → Ascends blob_number (with_garbage gs bs)
+pub garbage_ascends : (gs : List BlobGarbage) (bs : List BlobMeta) → Ascends blob_number bs → Ascends blob_number (with_garbage gs bs)
 garbage_ascends [] bs h = h
 garbage_ascends (g ∷ gs) bs h = garbage_ascends gs (map (add_garbage g) bs) (ascends_more g bs h)
 

@@ -17,3 +17,8 @@ AreProper ts = (k : ℕ) (d : NewTable) → k < length ts → is_proper (slice_i
 
 abbrev pub AreSteps : List NewTable → Type 0
 AreSteps ts = (k : ℕ) (d : NewTable) → suc k < length ts → precedes (slice_index_or ts k d) (slice_index_or ts (suc k) d) ≡ true
+
+-- proper tables, each of which precedes the next
+pub record IsChain (ts : List NewTable) : Type 0 where
+  pub proper : AreProper ts
+  pub steps : AreSteps ts

@@ -1,5 +1,5 @@
 -- What the records of a manifest restore.
-use Rattle.std.specs.Prelude.{◌≡◌, ℕ, ◌^◌, ◌||◌, nat_le, List, [], ◌∷◌, Option, None, Some, option_and_then, if◌then◌else◌}
+use Rattle.std.specs.Prelude.{ℕ, ◌^◌, ◌||◌, nat_le, List, [], ◌∷◌, Option, None, Some, option_and_then, if◌then◌else◌}
 use Rattle.std.specs.Result.{result_ok}
 use Rattle.bl_edit.specs.declared.edit.Edit.{Edit}
 use Rattle.bl_edit.specs.Reading.{read_edit, no_field}

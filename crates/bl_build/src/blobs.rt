@@ -1,9 +1,7 @@
 //! The blob files of the next version.
 
-ghost use Rattle.std.specs.Prelude.{◌≡◌, ◌==◌, ◌<◌, ◌||◌, ◌&&◌, not, ℕ, count_by, length, slice_index_or, unwrap_or, IfOk, IfSome, IfNone, MatchOption, true, false};
+ghost use Rattle.std.specs.Prelude.{◌≡◌, ◌==◌, ◌<◌, ◌||◌, ◌&&◌, not, ℕ, count_by, length, slice_index, slice_index_or, IfOk, IfSome, IfNone, MatchOption, true, false};
 ghost use Rattle.std.specs.List.{list_any};
-ghost use Rattle.std.specs.Ordering.{nat_cmp};
-ghost use Rattle.std.specs.BTreeMap.{get};
 ghost use Rattle.bl_build.specs.Listing.{Ascends, blob_number};
 ghost use Rattle.bl_build.specs.Versions.{add_garbage as garbage_added, first_over, first_unknown_blob as unknown_in, is_over, is_spent as spent_test, new_blob as new_of, still_needed, with_garbage, with_links};
 
@@ -12,7 +10,6 @@ use crate::meta::BlobMeta;
 use bl_blob::Totals;
 use bl_edit::{BlobAddition, BlobGarbage, NewTable};
 use std::alloc::Global;
-use std::collections::BTreeMap;
 
 /// The first garbage of a file that is not there.
 pub(crate) fn first_unknown_blob(blobs: &[BlobMeta], garbage: &[BlobGarbage]) -> Option<u64>
@@ -25,6 +22,14 @@ pub(crate) fn first_unknown_blob(blobs: &[BlobMeta], garbage: &[BlobGarbage]) ->
         };
     }
     None
+}
+
+/// Whether there is a blob file of this number.
+pub(crate) fn has_blob(blobs: &[BlobMeta], number: u64) -> bool
+    requires { Ascends blob_number blobs.now }
+    ensures { result ≡ list_any (λ b. b.number == number) blobs.now }
+{
+    place_of(blobs, number).is_some()
 }
 
 // Where the blob file of this number stands.
@@ -101,14 +106,15 @@ pub(crate) fn needed(
     tables: &[NewTable],
     blobs: &[BlobMeta],
 ) -> Result<Vec<BlobMeta>, BuildErr>
+    requires { Ascends blob_number blobs.now }
     ensures { IfOk result (λ kept. kept.items ≡ still_needed (with_links tables.now blobs.now)) }
 {
-    let links = links_of(alloc, tables)?;
+    let links = links_of(alloc, tables, blobs)?;
     let mut kept = Vec::new(alloc);
     let mut reached = false;
-    for blob in blobs {
+    for (i, blob) in blobs.iter().enumerate() {
         let blob = BlobMeta {
-            linked: links.get(&blob.number).copied().unwrap_or(0),
+            linked: links[i],
             ..*blob
         };
         reached = is_reached(reached, &blob);
@@ -142,14 +148,18 @@ fn is_spent(blob: &BlobMeta) -> bool
         && blob.garbage.bytes == blob.total.bytes
 }
 
-// How many tables have each blob file as their oldest.
-fn links_of(alloc: Global, tables: &[NewTable]) -> Result<BTreeMap<u64, u64>, BuildErr>
-    ensures { IfOk result (λ links. (q : ℕ) → unwrap_or (get nat_cmp links q) 0 ≡ count_by (λ t. t.oldest_blob == q) tables.now) }
+// How many tables have each of the files as their oldest, in the files' order.
+fn links_of(alloc: Global, tables: &[NewTable], blobs: &[BlobMeta]) -> Result<Vec<u64>, BuildErr>
+    requires { Ascends blob_number blobs.now }
+    ensures length { IfOk result (λ links. length links.items ≡ length blobs.now) }
+    ensures counts { IfOk result (λ links. (k : ℕ) (d : BlobMeta) → k < length blobs.now → slice_index links.items k ≡ count_by (λ t. t.oldest_blob == (slice_index_or blobs.now k d).number) tables.now) }
 {
-    let mut links = BTreeMap::new(alloc);
+    let mut links = vec![in alloc; 0; blobs.len()]?;
     for table in tables {
-        let linked = links.get(&table.oldest_blob).copied().unwrap_or(0);
-        links.insert(table.oldest_blob, linked + 1)?;
+        let Some(at) = place_of(blobs, table.oldest_blob) else {
+            continue;
+        };
+        links[at] += 1;
     }
     Ok(links)
 }

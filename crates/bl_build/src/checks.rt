@@ -1,13 +1,14 @@
 //! Why an edit does not fit: each check answers the number of the first file at fault.
 
-ghost use Rattle.std.specs.Prelude.{◌≡◌, ◌==◌, ℕ, IfOk, IsTrue};
+ghost use Rattle.std.specs.Prelude.{◌≡◌, ◌==◌, ◌&&◌, not, ℕ, IfOk, IsTrue};
 ghost use Rattle.std.specs.List.{AllByRecursion, list_any};
 ghost use Rattle.std.specs.Ordering.{nat_cmp};
 ghost use Rattle.std.specs.BTreeSet.{contains};
-ghost use Rattle.bl_build.specs.Listing.{table_rank};
-ghost use Rattle.bl_build.specs.Versions.{addition_numbers as numbers_of_additions, blob_numbers as numbers_of_blobs, clash as clash_test, first_overlap as overlap_in, first_twice as twice_in, first_unknown as unknown_in, table_numbers as numbers_of_tables};
+ghost use Rattle.bl_build.specs.Listing.{Ascends, blob_number, table_rank};
+ghost use Rattle.bl_build.specs.Versions.{addition_numbers as numbers_of_additions, blob_numbers as numbers_of_blobs, first_twice as twice_in, first_unknown as unknown_in, table_numbers as numbers_of_tables};
 ghost use Rattle.bl_edit.specs.Bounds.{deletion_fits, table_fits};
 
+use crate::blobs::has_blob;
 use crate::error::BuildErr;
 use crate::meta::BlobMeta;
 use crate::table::{deleted_rank, rank_of};
@@ -16,32 +17,30 @@ use std::alloc::Global;
 use std::collections::BTreeSet;
 
 /// The first deleted table that is not at its level.
-pub(crate) fn first_unknown(
-    alloc: Global,
-    tables: &[NewTable],
-    deleted: &[DeletedTable],
-) -> Result<Option<u64>, BuildErr>
+pub(crate) fn first_unknown(tables: &[NewTable], deleted: &[DeletedTable]) -> Option<u64>
+    requires order { Ascends table_rank tables.now }
     requires tables { AllByRecursion (λ t. IsTrue (table_fits t)) tables.now }
     requires deleted { AllByRecursion (λ d. IsTrue (deletion_fits d)) deleted.now }
-    ensures { IfOk result (λ found. found ≡ unknown_in tables.now deleted.now) }
+    ensures { result ≡ unknown_in tables.now deleted.now }
 {
-    let there = ranks_of(alloc, tables)?;
     for table in deleted {
-        if !there.contains(&deleted_rank(table)) {
-            return Ok(Some(table.number));
+        if !has_rank(tables, deleted_rank(table)) {
+            return Some(table.number);
         }
     }
-    Ok(None)
+    None
 }
 
-fn ranks_of(alloc: Global, tables: &[NewTable]) -> Result<BTreeSet<u128>, BuildErr>
-    ensures { IfOk result (λ set. (q : ℕ) → contains nat_cmp set q ≡ list_any (λ t. table_rank t == q) tables.now) }
+// Whether there is a table of this rank.
+fn has_rank(tables: &[NewTable], rank: u128) -> bool
+    requires { Ascends table_rank tables.now }
+    ensures { result ≡ list_any (λ t. table_rank t == rank) tables.now }
 {
-    let mut ranks = BTreeSet::new(alloc);
-    for table in tables {
-        ranks.insert(rank_of(table))?;
-    }
-    Ok(ranks)
+    let at = tables.partition_point(|table| rank_of(table) < rank);
+    let Some(table) = tables.get(at) else {
+        return false;
+    };
+    rank_of(table) == rank
 }
 
 /// The first added table whose number is that of one that is left or stands before it.
@@ -52,9 +51,42 @@ pub(crate) fn first_table_twice(
 ) -> Result<Option<u64>, BuildErr>
     ensures { IfOk result (λ found. found ≡ twice_in (numbers_of_tables left.now) (numbers_of_tables added.now)) }
 {
-    let there = table_numbers(alloc, left)?;
-    let added = table_numbers(alloc, added)?;
-    first_twice(alloc, &there, &added)
+    if added.is_empty() {
+        return Ok(None);
+    }
+    let mut free = free_numbers(alloc, left, added)?;
+    for table in added {
+        if !free.remove(&table.number) {
+            return Ok(Some(table.number));
+        }
+    }
+    Ok(None)
+}
+
+// The numbers of the added tables, less those of the tables that are left: these are not in the order of their
+// numbers, and so they are passed over once.
+fn free_numbers(
+    alloc: Global,
+    left: &[NewTable],
+    added: &[NewTable],
+) -> Result<BTreeSet<u64>, BuildErr>
+    ensures { IfOk result (λ free. (q : ℕ) → contains nat_cmp free q ≡ (list_any (λ t. t.number == q) added.now && not (list_any (λ t. t.number == q) left.now))) }
+{
+    let mut free = numbers_of(alloc, added)?;
+    for table in left {
+        let _ = free.remove(&table.number);
+    }
+    Ok(free)
+}
+
+fn numbers_of(alloc: Global, tables: &[NewTable]) -> Result<BTreeSet<u64>, BuildErr>
+    ensures { IfOk result (λ set. (q : ℕ) → contains nat_cmp set q ≡ list_any (λ t. t.number == q) tables.now) }
+{
+    let mut numbers = BTreeSet::new(alloc);
+    for table in tables {
+        numbers.insert(table.number)?;
+    }
+    Ok(numbers)
 }
 
 /// The first added blob file whose number is that of one that is there or stands before it.
@@ -63,62 +95,17 @@ pub(crate) fn first_blob_twice(
     blobs: &[BlobMeta],
     added: &[BlobAddition],
 ) -> Result<Option<u64>, BuildErr>
+    requires { Ascends blob_number blobs.now }
     ensures { IfOk result (λ found. found ≡ twice_in (numbers_of_blobs blobs.now) (numbers_of_additions added.now)) }
 {
-    let there = blob_numbers(alloc, blobs)?;
-    let added = addition_numbers(alloc, added)?;
-    first_twice(alloc, &there, &added)
-}
-
-// The first number that is among those that are there or stand before it.
-fn first_twice(alloc: Global, there: &[u64], added: &[u64]) -> Result<Option<u64>, BuildErr>
-    ensures { IfOk result (λ found. found ≡ twice_in there.now added.now) }
-{
-    let mut seen = set_of(alloc, there)?;
-    for number in added {
-        if !seen.insert(*number)? {
-            return Ok(Some(*number));
+    let mut before = BTreeSet::new(alloc);
+    for blob in added {
+        if has_blob(blobs, blob.number) {
+            return Ok(Some(blob.number));
+        }
+        if !before.insert(blob.number)? {
+            return Ok(Some(blob.number));
         }
     }
     Ok(None)
-}
-
-fn set_of(alloc: Global, numbers: &[u64]) -> Result<BTreeSet<u64>, BuildErr>
-    ensures { IfOk result (λ set. (q : ℕ) → contains nat_cmp set q ≡ list_any (λ n. n == q) numbers.now) }
-{
-    let mut set = BTreeSet::new(alloc);
-    for number in numbers {
-        set.insert(*number)?;
-    }
-    Ok(set)
-}
-
-fn table_numbers(alloc: Global, tables: &[NewTable]) -> Result<Vec<u64>, BuildErr>
-    ensures { IfOk result (λ v. v.items ≡ numbers_of_tables tables.now) }
-{
-    let mut numbers = Vec::with_capacity(alloc, tables.len())?;
-    for table in tables {
-        numbers.push(table.number)?;
-    }
-    Ok(numbers)
-}
-
-fn blob_numbers(alloc: Global, blobs: &[BlobMeta]) -> Result<Vec<u64>, BuildErr>
-    ensures { IfOk result (λ v. v.items ≡ numbers_of_blobs blobs.now) }
-{
-    let mut numbers = Vec::with_capacity(alloc, blobs.len())?;
-    for blob in blobs {
-        numbers.push(blob.number)?;
-    }
-    Ok(numbers)
-}
-
-fn addition_numbers(alloc: Global, added: &[BlobAddition]) -> Result<Vec<u64>, BuildErr>
-    ensures { IfOk result (λ v. v.items ≡ numbers_of_additions added.now) }
-{
-    let mut numbers = Vec::with_capacity(alloc, added.len())?;
-    for blob in added {
-        numbers.push(blob.number)?;
-    }
-    Ok(numbers)
 }

@@ -16,6 +16,8 @@ mod table;
 mod tests;
 mod version;
 
+/// A list as edits and plans have it, with the calls that make and read it.
+pub use bl_edit::Items;
 pub use error::{BadVersion, BuildErr};
 pub use laws::versions_reach_exactly;
 pub use meta::{BlobMeta, Standing};

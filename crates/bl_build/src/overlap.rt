@@ -1,11 +1,11 @@
 //! Tables of one level must not overlap, from level 1 on.
 
-ghost use Rattle.std.specs.Prelude.{◌≡◌, ◌++◌, List, map, true, None, IfOk};
+ghost use Rattle.std.specs.Prelude.{◌≡◌, List, map, true, false, None, IfOk};
 ghost use Rattle.std.specs.Bool.{OnTrue};
-ghost use Rattle.std.specs.List.{IsDistinct, list_any};
+ghost use Rattle.std.specs.List.{AllByRecursion, list_any};
 ghost use Rattle.bl_code.specs.Order.{user_part};
 ghost use Rattle.bl_edit.specs.declared.edit.NewTable.{NewTable};
-ghost use Rattle.bl_build.specs.Chains.{AreProper, AreSteps, is_proper as proper_test, precedes as precedes_test};
+ghost use Rattle.bl_build.specs.Chains.{AreProper, AreSteps, IsChain, is_proper as proper_test, precedes as precedes_test};
 ghost use Rattle.bl_build.specs.Versions.{clash as clash_test, first_overlap as overlap_in};
 
 use crate::error::BuildErr;
@@ -18,8 +18,8 @@ const NUMBER_BYTES: usize = 8;
 
 /// The first added table that overlaps one of its level, from level 1 on, that is left or stands before it.
 ///
-/// Where there is none, that is seen from the order of the tables by level and key. Only an edit that is
-/// refused is searched pair by pair.
+/// Where there is none, that is seen from the order of the added tables by level and key, in which each table
+/// that is left is looked up. Only an edit that is refused is searched pair by pair.
 pub(crate) fn first_overlap(
     alloc: Global,
     left: &[NewTable],
@@ -85,22 +85,23 @@ fn user(key: &[u8]) -> &[u8]
     &key[..key.len().saturating_sub(NUMBER_BYTES)]
 }
 
-// Whether no two of these tables clash, as their order by level and first key shows.
+// Whether no added table clashes with another one or with one that is left, as the order of the added ones by
+// level and first key shows.
 fn are_apart(alloc: Global, left: &[NewTable], added: &[NewTable]) -> Result<bool, BuildErr>
     ensures { IfOk result (λ apart. OnTrue apart (overlap_in left.now added.now ≡ None)) }
 {
     if are_of_level_0(added) {
         return Ok(true);
     }
-    let mut tables = Vec::with_capacity(alloc, left.len())?;
-    for table in left {
-        tables.push(table)?;
-    }
+    let mut tables = Vec::with_capacity(alloc, added.len())?;
     for table in added {
         tables.push(table)?;
     }
     tables.sort_unstable_by(|a, b| order(a, b));
-    Ok(is_chain(&tables))
+    if !is_chain(&tables) {
+        return Ok(false);
+    }
+    Ok(are_free(left, &tables))
 }
 
 fn are_of_level_0(added: &[NewTable]) -> bool
@@ -120,7 +121,7 @@ fn order(a: &NewTable, b: &NewTable) -> Ordering {
 
 // Whether each table ends before the next one of its level begins.
 fn is_chain(tables: &[&NewTable]) -> bool
-    ensures { OnTrue result (IsDistinct clash_test (map (λ t. t.now) tables.now)) }
+    ensures { OnTrue result (IsChain (map (λ t. t.now) tables.now)) }
 {
     if !are_proper(tables) {
         return false;
@@ -148,6 +149,31 @@ fn are_steps(tables: &[&NewTable]) -> bool
         }
     }
     true
+}
+
+// Whether none of the tables that are left clashes with one of a chain.
+fn are_free(left: &[NewTable], chain: &[&NewTable]) -> bool
+    requires { IsChain (map (λ t. t.now) chain.now) }
+    ensures { OnTrue result (AllByRecursion (λ t. list_any (clash_test t) (map (λ u. u.now) chain.now) ≡ false) left.now) }
+{
+    for table in left {
+        if !is_free(table, chain) {
+            return false;
+        }
+    }
+    true
+}
+
+// Whether a table stands between two of a chain.
+fn is_free(table: &NewTable, chain: &[&NewTable]) -> bool
+    requires { IsChain (map (λ t. t.now) chain.now) }
+    ensures { OnTrue result (list_any (clash_test table.now) (map (λ u. u.now) chain.now) ≡ false) }
+{
+    let at = chain.partition_point(|other| precedes(other, table));
+    let Some(next) = chain.get(at) else {
+        return true;
+    };
+    precedes(table, next)
 }
 
 fn is_proper(table: &NewTable) -> bool

@@ -7,11 +7,11 @@ use bl_edit::Items;
 pub struct CompactionPlan {
     /// The numbers of the input tables, ascending.
     pub inputs: Items<u64>,
-    /// The least level that holds an input.
+    /// The least level that holds an input, at most 6.
     pub in_level: u32,
     /// The level of its output, at most 6.
     pub out_level: u32,
-    /// Values in blob files of lower numbers are relocated.
+    /// Values in blob files of lower numbers than this one are relocated.
     pub cutoff: u64,
     /// The sequences of the live snapshots, ascending.
     pub snapshots: Items<u64>,

@@ -14,7 +14,11 @@ use crate::version::Version;
 use bl_edit::{BlobAddition, BlobGarbage, Edit, Items};
 use std::alloc::Global;
 
-/// The edit that makes this version of the empty one, with what stands beside it. It is in bounds where that is.
+/// The edit that makes this version of the empty one, with what stands beside it: the tables by level and number
+/// with keys of their own, the blob files by number, and garbage of those that have some. Applied to the empty
+/// version it is not refused. It is in bounds where the options are and the last sequence is below 2^56.
+///
+/// `OutOfMemory` where memory runs out.
 pub fn snapshot_edit(
     alloc: Global,
     version: &Version,

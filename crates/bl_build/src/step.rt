@@ -14,24 +14,30 @@ use crate::checks::{first_blob_twice, first_table_twice, first_unknown};
 use crate::error::{BadVersion, BuildErr};
 use crate::meta::BlobMeta;
 use crate::overlap::first_overlap;
-use crate::table::{copied, deleted_rank, rank_of};
+use crate::table::{copied, copies, deleted_rank, rank_of};
 use crate::version::Version;
 use bl_edit::{BlobAddition, DeletedTable, Edit, NewTable};
 use std::alloc::Global;
 use std::collections::BTreeSet;
 
-/// The version after an edit whose numbers and keys are in the bounds of the format; the base stays as it is.
+/// The version after an edit whose numbers and keys are in the bounds of the format. The base and the edit stay
+/// as they are: the new version has keys of its own.
 ///
-/// The refusals are tested in their order, each over the whole edit. The cost is that of a copy of the base
-/// and of the edit: the tables of the base are passed over once, and looked up by rank; where the edit adds to
-/// a level from 1 on, they are also sorted by level and key.
+/// The refusals are tested in the order in which `BadVersion` has them, each over the whole edit. `OutOfMemory`
+/// comes where memory runs out, which may be before a refusal is found.
+///
+/// The cost is that of a copy of the base and of the edit. Deleted tables and blob files are looked up in the base
+/// by their order. The tables of the base are passed over to copy them and to count the links of blob files; where
+/// the edit adds tables, to look each up among the numbers that are added; and where it adds to a level from 1 on,
+/// to look each up among the added tables, sorted by level and key. Each added file moves those behind it. Memory
+/// beside the new version is taken for the edit's own files, and for a number for each blob file.
 pub fn apply(alloc: Global, base: &Version, edit: &Edit) -> Result<Version, BadVersion>
     requires { IsEdit edit.now }
     ensures { Applies result (step base.now edit.now) }
 {
     let tables = base.all_tables();
     let deleted = edit.deleted.as_slice();
-    if let Some(number) = first_unknown(alloc, tables, deleted)? {
+    if let Some(number) = first_unknown(tables, deleted) {
         return Err(BadVersion::UnknownTable(number));
     }
     let left = without(alloc, deleted, tables)?;
@@ -69,6 +75,9 @@ fn without(
     requires tables { AllByRecursion (λ t. IsTrue (table_fits t)) tables.now }
     ensures { IfOk result (λ left. left.items ≡ tables_without deleted.now tables.now) }
 {
+    if deleted.is_empty() {
+        return copies(alloc, tables);
+    }
     let gone = deleted_ranks(alloc, deleted)?;
     let mut left = Vec::with_capacity(alloc, tables.len())?;
     for table in tables {

@@ -42,7 +42,7 @@ impl Version {
         }
     }
 
-    /// The tables of a level, by ascending number.
+    /// The tables of a level, at most 6, by ascending number; none where the level is empty.
     pub fn tables(&self, level: u32) -> &[NewTable]
         requires { level ≤ 6 }
         ensures { result.now ≡ at_level level self.now.tables }
@@ -50,14 +50,14 @@ impl Version {
         level_of(self.tables.as_slice(), level)
     }
 
-    /// The blob files, by ascending number.
+    /// The blob files with their accounts, by ascending number.
     pub fn blobs(&self) -> &[BlobMeta]
         ensures { result.now ≡ self.now.blobs }
     {
         self.blobs.as_slice()
     }
 
-    /// The same version once more.
+    /// The same version once more, with keys of its own; `OutOfMemory` where memory runs out.
     pub fn copy(&self, alloc: Global) -> Result<Version, BuildErr>
         ensures { IfOk result (λ version. version ≡ self.now) }
     {

@@ -1,9 +1,6 @@
-use Rattle.std.proofs.Common.{◌≡◌, ◌++◌, take}
+use Rattle.std.proofs.Common.{◌≡◌, take}
 use Rattle.std.specs.Prelude.{map}
 use Rattle.bl_build.proofs.overlap.are_apart.Given as goal
 
 abbrev pub invariant-loop-table : goal.invariant-loop-table
-invariant-loop-table l = map (λ t. t.now) l.tables.items ≡ take l.table-index l.left
-
-abbrev pub invariant-loop-table-2 : goal.invariant-loop-table-2
-invariant-loop-table-2 l = map (λ t. t.now) l.tables.items ≡ l.left ++ take l.table-index l.added
+invariant-loop-table l = map (λ t. t.now) l.tables.items ≡ take l.table-index l.added

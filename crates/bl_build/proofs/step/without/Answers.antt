@@ -1,7 +1,9 @@
-use Rattle.std.proofs.Common.{◌≡◌, cond, List, [], ◌∷◌, ◌++◌, sym, ap, ◌∙◌, subst, take}
+use Rattle.std.proofs.Common.{◌≡◌, cond, List, [], ◌∷◌, ◌++◌, length, refl, sym, ap, ◌∙◌, subst, take, arith}
 use Rattle.std.specs.Prelude.{◌==◌, not, IsTrue}
 use Rattle.std.specs.List.{list_any}
+use Rattle.std.proofs.lemmas.Bool.{eqb-true}
 use Rattle.std.proofs.lemmas.List.{append-nil}
+use Rattle.bl_edit.specs.declared.edit.DeletedTable.{DeletedTable}
 use Rattle.bl_edit.specs.declared.edit.NewTable.{NewTable}
 use Rattle.bl_edit.specs.Bounds.{table_fits}
 use Rattle.bl_build.specs.Listing.{rank}
@@ -10,6 +12,19 @@ use Rattle.bl_build.proofs.Levels.{fits_number}
 use Rattle.bl_build.proofs.Placing.{all_get, filter_more}
 use Rattle.bl_build.proofs.Searching.{any_deleted}
 use Rattle.bl_build.proofs.step.without.Goals as goal
+
+keep_all : (ts : List NewTable) → without [] ts ≡ ts
+keep_all [] = refl
+keep_all (t ∷ ts) = ap (λ us. t ∷ us) (keep_all ts)
+
+none_gone : (ds : List DeletedTable) (ts : List NewTable) → length ds ≡ 0 → without ds ts ≡ ts
+none_gone [] ts e = keep_all ts
+none_gone (d ∷ ds) ts e = absurd (omega arith)
+
+pub returns-then-is_empty : goal.returns-then-is_empty
+returns-then-is_empty c =
+    let none : length c.args.deleted.now ≡ 0 = eqb-true (length c.args.deleted.now) 0 (sym c.is_empty.ensures ∙ c.if-is_empty.true) in
+    rw (none_gone c.args.deleted.now c.args.tables.now none) c.copies.ensures
 
 pub loop-table-preserved-then-contains : goal.loop-table-preserved-then-contains
 loop-table-preserved-then-contains c =

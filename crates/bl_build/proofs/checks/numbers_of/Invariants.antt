@@ -3,8 +3,7 @@ use Rattle.std.specs.Prelude.{◌==◌}
 use Rattle.std.specs.List.{list_any}
 use Rattle.std.specs.Ordering.{nat_cmp}
 use Rattle.std.specs.BTreeSet.{contains}
-use Rattle.bl_build.specs.Listing.{table_rank}
-use Rattle.bl_build.proofs.checks.ranks_of.Given as goal
+use Rattle.bl_build.proofs.checks.numbers_of.Given as goal
 
 abbrev pub invariant-loop-table : goal.invariant-loop-table
-invariant-loop-table l = (q : ℕ) → contains nat_cmp l.ranks q ≡ list_any (λ t. table_rank t == q) (take l.table-index l.tables)
+invariant-loop-table l = (q : ℕ) → contains nat_cmp l.numbers q ≡ list_any (λ t. t.number == q) (take l.table-index l.tables)
