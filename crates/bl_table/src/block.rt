@@ -95,8 +95,11 @@ pub(crate) fn whole_fault(
 }
 
 impl Block {
-    /// Reads a block with its trailer. `Length` at the handle's offset where the bytes are not so many as
-    /// the handle says and a trailer has, or would pass 2^64.
+    /// Reads a block with its trailer, of 5 bytes; places count from the beginning of the table. `Length` at
+    /// the handle's offset where the bytes are not the handle's size and 5, or would reach 2^64. Else the first
+    /// of these: `Restart` at the count of the restarts, or at the block's beginning where it has no room for a
+    /// count; `Entry` or `Order` at the first entry that is at fault; `Restart` at the first restart that is;
+    /// `Kind` at the type; `Crc` at the checksum. `OutOfMemory` where memory runs out.
     pub fn parse(alloc: Global, bytes: &[u8], handle: Handle) -> Result<Block, BadTable>
         ensures { Answers result (read_block bytes.now handle) }
     {
@@ -114,7 +117,8 @@ impl Block {
         })
     }
 
-    /// The first entry at or behind a key of at least 9 bytes: a search among the restarts, and a walk from one.
+    /// The first entry at or behind a key of at least 9 bytes; None where there is none. It is reached by a
+    /// search among the restarts, and a walk from one. `OutOfMemory` where memory runs out.
     pub fn first(&self, alloc: Global, from: &[u8]) -> Result<Option<BlockEntry>, TableErr>
         requires { 9 ≤ length from.now }
         ensures { IfOk result (λ e. e ≡ first_from from.now self.now) }
@@ -140,7 +144,7 @@ impl Block {
     }
 
     /// The entry that follows the one at a place of the table; None where none follows, or none stands there.
-    /// It is reached by a search among the restarts, and a walk from one.
+    /// It is reached by a search among the restarts, and a walk from one. `OutOfMemory` where memory runs out.
     pub fn after(&self, alloc: Global, place: u64) -> Result<Option<BlockEntry>, TableErr>
         ensures { IfOk result (λ e. e ≡ next_after place self.now) }
     {

@@ -123,6 +123,8 @@ impl TableBuilder {
     }
 
     /// Adds an entry. The bytes that are given follow those given before: none until a block is complete.
+    /// Key and value have together fewer than 2^31 bytes. `OutOfMemory` where memory runs out; then the builder
+    /// is as it was.
     pub fn add(&mut self, key: &[u8], value: &[u8]) -> Result<Octets, TableErr>
         requires { length key.now + length value.now < 2 ^ 31 }
         ensures added { IfOk result (λ bytes. (items : List Item) (given : List ℕ) → HasAdded items given self.old → HasAdded (items ++ item key.now value.now ∷ []) (given ++ bytes) self.new) }
@@ -145,14 +147,16 @@ impl TableBuilder {
         }
     }
 
-    /// The bytes of the complete blocks with their trailers, and of the entries of the block in hand.
+    /// How many bytes the complete blocks with their trailers have, and the entries of the block in hand,
+    /// modulo 2^64.
     pub fn size(&self) -> u64
         ensures { (items : List Item) (given : List ℕ) (added : HasAdded items given self.now) → result ≡ (length given + length (entries_from 0 0 [] added.hand)) % 2 ^ 64 }
     {
         self.offset.wrapping_add(self.block.len() as u64)
     }
 
-    /// The rest of the table: the block in hand, the metaindex and index blocks and the footer.
+    /// The rest of the table: the block in hand, the metaindex and index blocks and the footer. `OutOfMemory`
+    /// where memory runs out. Whatever is answered, the builder is as it was.
     pub fn finish(&mut self) -> Result<Octets, TableErr>
         ensures table { IfOk result (λ rest. (items : List Item) (given : List ℕ) → HasAdded items given self.old → given ++ rest ≡ table items) }
         ensures same { self.new ≡ self.old }

@@ -16,25 +16,28 @@ pub enum TableRule {
     Kind,
     /// The checksum of a block differs.
     Crc,
-    /// The restarts of a block, or their count.
+    /// The restarts of a block, or their count: none or more than fit, the first not 0, or another that is
+    /// not where a further entry begins that shares nothing.
     Restart,
-    /// An entry that doesn't fit, or stands where none may.
+    /// An entry that doesn't fit, has a key of fewer than 9 bytes, stands where none may, or is missing.
     Entry,
-    /// A key that doesn't stand behind the one before it.
+    /// A key that doesn't stand behind the one before it, or an index key that is not between two blocks.
     Order,
 }
 
 /// Why bytes are no table, block or footer.
 #[derive(Clone, Copy, Debug, Drop, PartialEq, Eq)]
 pub enum BadTable {
-    /// The first fault: its rule and its place in the table.
+    /// The first fault: its rule and its place, the offset in the table.
     At(TableRule, u64),
+    /// Memory ran out before the first fault was found, or before what was read was kept.
     OutOfMemory,
 }
 
 /// Why a call failed. It changed nothing.
 #[derive(Clone, Copy, Debug, Drop, PartialEq, Eq)]
 pub enum TableErr {
+    /// Memory ran out.
     OutOfMemory,
 }
 

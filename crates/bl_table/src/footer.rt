@@ -1,6 +1,6 @@
 //! The footer of a table.
 
-ghost use Rattle.std.specs.Prelude.{◌≡◌, ◌+◌, ◌^◌, ◌<◌, ◌≤◌, ◌==◌, length, is_some, option_and_then, if◌then◌else◌, OnSome};
+ghost use Rattle.std.specs.Prelude.{◌≡◌, ◌+◌, ◌^◌, ◌<◌, ◌≤◌, ◌==◌, length, is_some, option_and_then, if◌then◌else◌, OnSome, IsErrOf};
 ghost use Rattle.std.specs.Int.{w64, from_le_bytes};
 ghost use Rattle.bl_table.specs.declared.handle.Handle.{Handle as HandleRead};
 ghost use Rattle.bl_table.specs.declared.fault.TableRule.TheVariants as rule;
@@ -125,9 +125,11 @@ pub(crate) fn footer_of(bytes: &[u8], size: u64) -> Footer
 
 /// The handles of the metaindex block and of the index block, from the last 48 bytes of a table of so many
 /// bytes. `Length` at 0 where there are not 48 bytes or the size is below 48; `Handle` at a handle that is
-/// none, or of a block that passes the footer; `Magic` at the magic number.
+/// none, or of a block that passes the footer; `Magic` at the magic number. It takes no memory, and never
+/// answers `OutOfMemory`.
 pub fn read_footer(bytes: &[u8], size: u64) -> Result<(Handle, Handle), BadTable>
-    ensures { Answers result (reading bytes.now size) }
+    ensures reads { Answers result (reading bytes.now size) }
+    ensures memory { IsErrOf result BadTable.OutOfMemory → ⊥ }
 {
     if bytes.len() as u64 != FOOTER || size < FOOTER {
         return Err(BadTable::At(TableRule::Length, 0));

@@ -1,6 +1,6 @@
 //! Handles of blocks.
 
-/// Where a block stands in its table: the offset of its first byte, and its size without the trailer.
+/// Where a block stands in its table: the offset of its first byte, and its size in bytes without the trailer.
 #[derive(Clone, Copy, Debug, Drop, PartialEq, Eq)]
 pub struct Handle {
     pub offset: u64,

@@ -99,12 +99,17 @@ fn a_changed_table_is_refused(rt: HostRuntime) -> Result<(), Fail> {
         size: 25,
     };
     let one = ONE.as_slice();
-    let mut block = Vec::from_slice(rt.alloc(), &one[..30])?;
-    block[25] = 1;
-    assert_eq!(rt;
-        Block::parse(rt.alloc(), &block, handle).err(),
-        Some(BadTable::At(TableRule::Kind, 25))
-    );
+    // A byte of the block's key, and its type.
+    for (at, byte, rule, place) in [(3, b'b', TableRule::Crc, 26), (25, 1, TableRule::Kind, 25)] {
+        let mut block = Vec::from_slice(rt.alloc(), &one[..30])?;
+        if let Some(old) = block.get_mut(at) {
+            *old = byte;
+        }
+        assert_eq!(rt;
+            Block::parse(rt.alloc(), &block, handle).err(),
+            Some(BadTable::At(rule, place))
+        );
+    }
     assert_eq!(rt;
         read_footer(&[0; 48], 118).err(),
         Some(BadTable::At(TableRule::Magic, 110))
@@ -147,30 +152,33 @@ fn entries_of_a_block_are_found(rt: HostRuntime) -> Result<(), Fail> {
 #[test]
 fn each_complete_block_is_read(rt: HostRuntime) -> Result<(), Fail> {
     let mut builder = TableBuilder::start(rt.alloc());
-    let mut given = 0;
-    let mut blocks = 0;
+    let mut table = Vec::new(rt.alloc());
+    let mut blocks: usize = 0;
     for letter in 0..200 {
-        let bytes = builder.add(&key_of(letter), &[7; 100])?;
+        let bytes = builder.add(&key_of(letter), &[letter; 100])?;
         let size = (bytes.as_slice().len() as u64).saturating_sub(5);
         if size > 0 {
-            let block = Block::parse(
-                rt.alloc(),
-                bytes.as_slice(),
-                Handle {
-                    offset: given,
-                    size,
-                },
-            )
-            .ok()
-            .ok_or("refused")?;
+            let offset = table.len() as u64;
+            let block = Block::parse(rt.alloc(), bytes.as_slice(), Handle { offset, size })
+                .ok()
+                .ok_or("refused")?;
             let last = block.first(rt.alloc(), &key_of(letter))?.ok_or("none")?;
             assert_eq!(rt; last.key.as_slice(), key_of(letter).as_slice());
             assert!(rt; block.after(rt.alloc(), last.place)?.is_none());
-            given = size.saturating_add(5).saturating_add(given);
-            blocks = 1.max(blocks);
+            table.extend_from_slice(bytes.as_slice())?;
+            blocks = blocks.saturating_add(1);
         }
     }
-    assert_eq!(rt; blocks, 1);
-    assert!(rt; builder.size() >= given);
+    // 37 entries of 112 bytes, three restarts and their count make a block of 4160 bytes; 15 entries are left.
+    assert_eq!(rt; blocks, 5);
+    assert_eq!(rt; builder.size(), 5 * 4165 + 1680);
+    table.extend_from_slice(builder.finish()?.as_slice())?;
+    let entries = read_table(rt.alloc(), &table).ok().ok_or("refused")?;
+    assert_eq!(rt; entries.len(), 200);
+    for letter in [0, 199] {
+        let entry = entries.get(usize::from(letter)).ok_or("none")?;
+        assert_eq!(rt; entry.key.as_slice(), key_of(letter).as_slice());
+        assert_eq!(rt; entry.value.as_slice(), [letter; 100].as_slice());
+    }
     Ok(())
 }

@@ -275,8 +275,14 @@ fn read_index(
     Ok((first_of(block.fault, fault), entries))
 }
 
-/// The entries of a table, in the order of its index. The first fault by its place in the table, at one place
-/// by the order of the rules: `Length` at 0 where there are not 48 bytes for a footer.
+/// The entries of a table, in the order of its index. `Length` at 0 where there are not 48 bytes for a footer.
+/// Else the first fault by its place in the table, at one place by the order of the rules: those of the footer
+/// as `read_footer` has them, and those of each block that it and the index name as `Block::parse` has them;
+/// `Entry` at an entry of the metaindex block, and at the beginning of a data block without one; `Handle` at an
+/// index entry whose value is no handle to its end, or of a block that passes the footer; `Order` at the first
+/// entry of a data block that does not stand behind the last one before it, and at an index entry whose key
+/// stands before its block's last key, or not before the next block's first. `OutOfMemory` where memory runs
+/// out.
 pub fn read_table(alloc: Global, bytes: &[u8]) -> Result<Vec<BlockEntry>, BadTable>
     ensures { Reads result (reading bytes.now) }
 {
