@@ -8,4 +8,6 @@ mod logs;
 #[cfg(test)]
 mod manifests;
 #[cfg(test)]
+mod records;
+#[cfg(test)]
 mod scripts;
