@@ -9,6 +9,8 @@ mod logs;
 #[cfg(test)]
 mod manifests;
 #[cfg(test)]
+mod records;
+#[cfg(test)]
 mod scripts;
 #[cfg(test)]
 mod stores;

@@ -179,21 +179,21 @@ fn cuts_after_a_sync(rt: HostRuntime) -> Result<(), Fail> {
 
 #[test]
 fn cuts_of_a_reopening(rt: HostRuntime) -> Result<(), Fail> {
-    // The calls: the names and the log, a write (3) and its reply; the names again, the sync of the log (6), three calls of its
-    // replay, the next log and the reply (11); a write (12) and its reply, and the sync at the script's end (14).
+    // The calls: the names and the log, a write (3) and its reply; the names again, the sync of the log (6), two calls of its
+    // replay, the next log and the reply (10); a write (11) and its reply, and the sync at the script's end (13).
     let mut site = MemSite::start(rt.alloc())?;
     let script = b"put a =1\nreopen\nput b =2\n";
     let status = serve(rt.alloc(), script, 64, &[], &mut site)?;
     assert_eq!(rt; status, Status::Done);
-    assert_eq!(rt; site.calls(), 14);
-    for at in 0..16 {
+    assert_eq!(rt; site.calls(), 13);
+    for at in 0..15 {
         for keep in [0, 1, 100] {
             for fill in [None, Some(0x5A)] {
                 let mut cut = site.cut(at, keep, fill)?;
                 let status = serve(rt.alloc(), b"scan\n", 64, &[], &mut cut)?;
                 assert_eq!(rt; status, Status::Done, "call {at}, {keep} bytes");
                 let first = at > 5 || at > 2 && keep == 100;
-                let second = at > 13 || at > 11 && keep == 100;
+                let second = at > 12 || at > 10 && keep == 100;
                 let want = if second {
                     b"pair a =1\npair b =2\nend\n".as_slice()
                 } else if first {

@@ -124,13 +124,18 @@ pub fn replay<S: Site>(
     let name = print_name(alloc, &FileName::Log(number))?;
     let mut records = RecordReader::open(alloc, name)?;
     let mut entries = Vec::new(alloc);
-    let mut taken = last;
+    let mut last_taken = last;
     placed_records_are_records();
     batches_join();
     'records: for _ in 0..u64::MAX {
         match records.next(site)? {
             NextRecord::Record(payload) => {
-                let goes_on = take_record(alloc, &mut entries, &mut taken, payload.as_slice())?;
+                let goes_on = take_record(
+                    alloc,
+                    &mut entries,
+                    &mut last_taken,
+                    payload.as_slice(),
+                )?;
                 if !goes_on {
                     return Err(corrupt(alloc, records.name(), records.place()));
                 }
@@ -139,7 +144,7 @@ pub fn replay<S: Site>(
                 let entries = Entries::from_vec(entries);
                 return Ok(Replayed {
                     entries,
-                    last: taken,
+                    last: last_taken,
                 });
             }
             NextRecord::Absent => return Err(corrupt(alloc, records.name(), 0)),

@@ -61,7 +61,7 @@ returns-then-not-goes_on-clause-corrupt g c = λ shown file place e.
     let is = corrupt_is c.corrupt.result c.name.result.now file c.place.result place c.corrupt.ensures (cc e) in
     let t = taken_of c.in_ok-goes_on-in-Record.goes_on false c.in-Record.payload c.as_slice.result.now _ _ _ _ c.if-not-goes_on.true c.as_slice.ensures c.in_ok-goes_on-in-Record.ensures.taken in (
       is.0 ∙ c.name.ensures ∙ c.next.ensures.name ∙ c.records.invariant.name,
-      broke_off folder c.args.number c.args.last c.records.records c.next.new.self c.in-Record.payload c.records.entries.items c.records.taken place
+      broke_off folder c.args.number c.args.last c.records.records c.next.new.self c.in-Record.payload c.records.entries.items c.records.last_taken place
           (record_of c.in_ok-payload.field-0 c.in-Record.payload (folder_of (site.disk c.records.site) c.records.records.name) (folder (log_name c.args.number)) c.records.records c.next.new.self c.in-Record.is same (c.in_ok-payload.ensures.answers shown)) t.0 (is.1 ∙ c.place.ensures) (c.records.invariant.progress shown),
     )
 
@@ -80,9 +80,9 @@ returns-in-End-clause-replayed g c = λ shown.
     let folder = folder_of (site.disk c.args.site.now) in
     let same : folder_of (site.disk c.records.site) c.records.records.name ≡ folder (log_name c.args.number) =
     ap (λ (d : Disk). folder_of d c.records.records.name) (c.records.invariant.stays shown).same ∙ ap folder c.records.invariant.name in
-    let P : List Entry → Type 0 = λ es. HasEntries folder c.args.number c.args.last es c.records.taken in
+    let P : List Entry → Type 0 = λ es. HasEntries folder c.args.number c.args.last es c.records.last_taken in
     subst P (sym c.from_vec-entries.ensures)
-    (ended c.placed_records_are_records.ensures folder c.args.number c.args.last c.records.records c.records.entries.items c.records.taken c.in-End.field-0
+    (ended c.placed_records_are_records.ensures folder c.args.number c.args.last c.records.records c.records.entries.items c.records.last_taken c.in-End.field-0
     (end_of c.in_ok-payload.field-0 c.in-End.field-0 (folder_of (site.disk c.records.site) c.records.records.name) (folder (log_name c.args.number)) c.records.records c.next.new.self c.in-End.is same (c.in_ok-payload.ensures.answers shown))
     (c.records.invariant.progress shown))
 
