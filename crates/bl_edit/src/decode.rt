@@ -12,7 +12,9 @@ use bl_code::{Octets, Taker};
 use std::alloc::Global;
 
 /// The edit that all of these bytes spell, its fields in any order: of a field that may stand once the last
-/// one counts. Or the first field that is none: its tag, and the place of that tag.
+/// one counts. It is in the bounds that `encode_edit` asks for. Or `At` for the first field that is none, is
+/// cut, or holds what is out of bounds: its tag, and the place of that tag; 0 for the tag where it is cut
+/// itself. `OutOfMemory` where memory runs out.
 pub fn decode_edit(alloc: Global, bytes: &[u8]) -> Result<Edit, BadEdit>
     ensures exact { Decodes result (read_edit bytes.now) }
     ensures bounds { IfOk result (λ edit. IsEdit edit × FitsWords edit) }

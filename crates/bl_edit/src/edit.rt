@@ -8,14 +8,14 @@ use crate::options::Options;
 use bl_code::Octets;
 use std::alloc::Global;
 
-/// A table that leaves its level.
+/// A table that leaves its level, 0 to 6, by the number of its file.
 #[derive(Clone, Copy, Debug, Drop, PartialEq, Eq)]
 pub struct DeletedTable {
     pub level: u32,
     pub number: u64,
 }
 
-/// A table that joins a level, 0 to 6.
+/// A table that joins a level, 0 to 6, by the number of its file.
 #[derive(Drop)]
 pub struct NewTable {
     pub level: u32,
@@ -25,13 +25,14 @@ pub struct NewTable {
     /// The bytes of its least and of its greatest internal key.
     pub smallest: Octets,
     pub largest: Octets,
+    /// The least and the greatest sequence of its entries, below 2^56.
     pub least_seq: u64,
     pub most_seq: u64,
     /// The least number of a blob file that it names; 0 where it names none.
     pub oldest_blob: u64,
 }
 
-/// A new blob file: how many records it has, and their bytes.
+/// A new blob file by its number: how many records it has, and their bytes.
 #[derive(Clone, Copy, Debug, Drop, PartialEq, Eq)]
 pub struct BlobAddition {
     pub number: u64,
@@ -39,7 +40,7 @@ pub struct BlobAddition {
     pub bytes: u64,
 }
 
-/// How many records of a blob file became garbage, and their bytes.
+/// How many records of the blob file of this number became garbage, and their bytes.
 #[derive(Clone, Copy, Debug, Drop, PartialEq, Eq)]
 pub struct BlobGarbage {
     pub number: u64,
@@ -54,7 +55,9 @@ pub struct Edit {
     pub comparator: bool,
     /// The least number of a log that is needed.
     pub log_number: Option<u64>,
+    /// The number that the next new file gets.
     pub next_file: Option<u64>,
+    /// The last sequence, below 2^56: no table has a greater one.
     pub last_sequence: Option<u64>,
     pub options: Option<Options>,
     pub deleted: Items<DeletedTable>,

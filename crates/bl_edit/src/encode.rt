@@ -16,6 +16,10 @@ use std::alloc::Global;
 
 /// An edit as it stands in a record of the manifest: the fields that stand once, and then the lists, each
 /// in its order.
+///
+/// The edit is in bounds: levels from 0 to 6; numbers of tables and blob files from 1 to 10^15 - 1, or 0 for
+/// no oldest blob file; internal keys of 9 to 65,543 bytes and of one of the three kinds; sequences below 2^56;
+/// options in their ranges. `OutOfMemory` where memory runs out.
 pub fn encode_edit(alloc: Global, edit: &Edit) -> Result<Octets, EditErr>
     requires { IsEdit edit.now }
     ensures bytes { IfOk result (λ bytes. bytes ≡ edit_bytes edit.now) }

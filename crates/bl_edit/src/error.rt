@@ -9,6 +9,7 @@ use std::alloc::{AllocError, AllocFailed};
 /// Why nothing was made: what the call was given is as it was.
 #[derive(Clone, Copy, Debug, Drop, PartialEq, Eq)]
 pub enum EditErr {
+    /// Memory ran out.
     OutOfMemory,
 }
 
@@ -33,8 +34,10 @@ impl From<CodeErr> for EditErr {
 /// Why bytes are no edit.
 #[derive(Clone, Copy, Debug, PartialEq, Eq)]
 pub enum BadEdit {
-    /// The tag of the first field at fault, or 0 where the tag itself is cut, and the place of that tag.
+    /// The tag of the first field at fault, or 0 where the tag itself is cut, and the place of that tag: its
+    /// offset in the bytes.
     At(u32, u64),
+    /// Memory ran out before a field at fault was found.
     OutOfMemory,
 }
 

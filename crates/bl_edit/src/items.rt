@@ -45,7 +45,8 @@ impl<T> Items<T> {
 }
 
 impl<T: Drop> Items<T> {
-    /// One more item follows; the list is as it was where memory runs out.
+    /// One more item follows. `AllocError` where memory runs out; then the list is as it was, and the item is
+    /// dropped.
     pub fn push(&mut self, item: T) -> Result<(), AllocError>
         ensures ok { OnOk result (self.new ≡ self.old ++ item ∷ []) }
         ensures err { OnErr result (self.new ≡ self.old) }

@@ -11,6 +11,7 @@ use std::alloc::{AllocError, AllocFailed};
 pub enum IndexErr {
     /// The bytes of the references into this file would reach 2^64.
     Overflow(u64),
+    /// Memory ran out.
     OutOfMemory,
 }
 
@@ -53,7 +54,7 @@ pub enum IndexRule {
     Trailing,
 }
 
-/// The first fault, and the offset of the field that has it.
+/// The first fault, and the offset in the bytes of the field that has it.
 #[derive(Clone, Copy, Debug, Drop, PartialEq, Eq)]
 pub struct BadIndex {
     pub rule: IndexRule,

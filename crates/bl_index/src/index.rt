@@ -13,7 +13,7 @@ const BLOB: u8 = 1;
 
 const NO_COMPRESSION: u8 = 0;
 
-/// A blob file, the offset of a value in it, and the value's length in bytes.
+/// The number of a blob file, the offset in bytes of a value in it, and the value's length in bytes.
 #[derive(Clone, Copy, Debug, Drop, PartialEq, Eq)]
 pub struct BlobIndex {
     pub file: u64,
@@ -22,6 +22,7 @@ pub struct BlobIndex {
 }
 
 /// The shortest spelling: 01, the varints of file, offset and size, and 00 for no compression.
+/// `OutOfMemory` where memory runs out.
 pub fn encode_index(alloc: Global, index: &BlobIndex) -> Result<Octets, IndexErr>
     ensures bytes { IfOk result (λ bytes. bytes ≡ blob_index index.now.file index.now.offset index.now.size) }
     ensures only { IsOkUnless result IndexErr.OutOfMemory }
@@ -35,7 +36,10 @@ pub fn encode_index(alloc: Global, index: &BlobIndex) -> Result<Octets, IndexErr
     Ok(Octets::from_vec(bytes))
 }
 
-/// The index that the bytes spell to their end, in any spelling of its numbers; or the first fault.
+/// The index that the bytes spell to their end, in any spelling of its numbers; or the first fault:
+/// `Empty` at 0 where there is no byte; `Kind` at 0; `Number` at a number that is cut, or 2^64 or more;
+/// `Compression` where its byte stands or is missing; `Trailing` at the first byte behind it. It takes no
+/// memory.
 pub fn decode_index(bytes: &[u8]) -> Result<BlobIndex, BadIndex>
     ensures accepts { (index : BlobIndex) → (result ≡ Ok index)
         ↔ IsBlobIndex bytes.now index.file index.offset index.size }

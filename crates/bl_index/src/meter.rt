@@ -43,8 +43,8 @@ impl Meter {
 
     /// The job read this reference, under a key of so many bytes.
     ///
-    /// `Overflow` with the file's number where the bytes that went in for the file would reach 2^64,
-    /// and `OutOfMemory`; then the meter is as it was.
+    /// `Overflow` with the file's number exactly where the bytes that went in for the file would reach 2^64,
+    /// and `OutOfMemory` where memory runs out; then the meter is as it was.
     pub fn in_flow(&mut self, key_length: u64, index: &BlobIndex) -> Result<(), IndexErr>
         ensures ok { OnOk result ((flows : List Flow) → Meters flows self.old
             → Meters (flows ++ In index.now.file (reference_bytes key_length index.now) ∷ []) self.new) }
@@ -66,9 +66,11 @@ impl Meter {
         Ok(())
     }
 
-    /// The job wrote this reference again. Of a file that no in-flow named nothing is counted.
+    /// The job wrote this reference again, under a key of so many bytes. Of a file that no in-flow named
+    /// nothing is counted.
     ///
-    /// What came out of a file may not pass what went in. `OutOfMemory` leaves the meter as it was.
+    /// With it no more came out of the file than went in, in count and in bytes; `flows_give_room` shows it
+    /// of the flows. `OutOfMemory` where memory runs out; then the meter is as it was.
     pub fn out_flow(&mut self, key_length: u64, index: &BlobIndex) -> Result<(), IndexErr>
         requires { HasRoom self.old index.now.file (reference_bytes key_length index.now) }
         ensures ok { OnOk result ((flows : List Flow) → Meters flows self.old
