@@ -30,7 +30,7 @@ get_put m k None q = get-remove nat_list_cmp_total m k q ∙ ap (λ b. cond b No
 get_put m k (Some v) q = get-insert nat_list_cmp_total m k v q ∙ ap (λ b. cond b (Some v) (get m q)) ((eq_by_cmp_equiv nat_list_cmp_total).symm q k)
 
 -- the map of these keys
-made : List Revision → ℕ → List (List ℕ) → Map
+unfoldable pub made : List Revision → ℕ → List (List ℕ) → Map
 made es seq [] = empty
 made es seq (k ∷ ks) = after_put k (value_at es seq k) (made es seq ks)
 
@@ -58,7 +58,7 @@ unseen (e ∷ es) seq q none = by_key (same_bytes e.key q) (list_any (λ k. same
     by_key true some is rest = cc
     by_key false some is rest = rest is
 
-maps_are_made : (es : List Revision) (seq : ℕ) → IsMapAt es seq (made es seq (map (λ e. e.key) es))
+pub maps_are_made : (es : List Revision) (seq : ℕ) → IsMapAt es seq (made es seq (map (λ e. e.key) es))
 maps_are_made es seq q = get_made es seq (map (λ e. e.key) es) q ∙ by_key (list_any (λ k. same_bytes k q) (map (λ e. e.key) es)) refl
   where
     by_key : (b : Bool) → list_any (λ k. same_bytes k q) (map (λ e. e.key) es) ≡ b → cond b (value_at es seq q) None ≡ value_at es seq q

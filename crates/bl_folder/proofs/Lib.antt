@@ -1,3 +1,4 @@
+mod FieldRows
 mod Finding
 mod FrameLemmas
 mod FreshLemmas

@@ -117,10 +117,10 @@ fresh = inl (
 
 -- ---- the folder of one flushed put: CURRENT, a manifest of two edits, a table, a blob file, and no log
 
-key : List ℕ
+unfoldable pub key : List ℕ
 key = 97 ∷ 0x11 ∷ 1 ∷ 0 ∷ 0 ∷ 0 ∷ 0 ∷ 0 ∷ 0 ∷ []
 
-options : Values
+unfoldable pub options : Values
 options = record {
   min_blob_size = 3;
   blob_file_size = 268435456;
@@ -133,7 +133,7 @@ options = record {
   force_threshold = 100;
 }
 
-table_four : NewTable
+unfoldable pub table_four : NewTable
 unfolding key
 table_four = record { level = 0; number = 4; size = 118; smallest = key; largest = key; least_seq = 1; most_seq = 1; oldest_blob = 5 }
 
@@ -156,7 +156,7 @@ flushed garbage = record no_field {
 manifest_of : List BlobGarbage → List ℕ
 manifest_of garbage = written 0 (edit_bytes first ∷ edit_bytes (flushed garbage) ∷ [])
 
-xyz : Record
+unfoldable pub xyz : Record
 xyz = record { key = 97 ∷ []; value = 120 ∷ 121 ∷ 122 ∷ [] }
 
 index : List ℕ
