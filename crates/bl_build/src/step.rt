@@ -30,7 +30,8 @@ use std::collections::BTreeSet;
 /// by their order. The tables of the base are passed over to copy them and to count the links of blob files; where
 /// the edit adds tables, to look each up among the numbers that are added; and where it adds to a level from 1 on,
 /// to look each up among the added tables, sorted by level and key. Each added file moves those behind it. Memory
-/// beside the new version is taken for the edit's own files, and for a number for each blob file.
+/// beside the new version is taken for sets of the edit's own files, and for a second list of the blob files with a
+/// number for each.
 pub fn apply(alloc: Global, base: &Version, edit: &Edit) -> Result<Version, BadVersion>
     requires { IsEdit edit.now }
     ensures { Applies result (step base.now edit.now) }

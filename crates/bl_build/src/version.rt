@@ -32,7 +32,7 @@ impl Model for Version {
 }
 
 impl Version {
-    /// No table and no blob file; what is applied to it will stand in this memory.
+    /// The version with no table and no blob file; it takes no memory yet.
     pub fn empty(alloc: Global) -> Version
         ensures { result ≡ nothing }
     {
