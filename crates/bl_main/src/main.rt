@@ -1,13 +1,17 @@
 //! `blob_shell`: a script on standard input, its replies on standard output, and the store in the current folder.
 #![tactic(auto)]
 
+ghost use Rattle.std.specs.Prelude.{◌≡◌, ◌≢◌, MatchOption};
+
 use bl_shell::{Status, run};
 use bl_site_host::{HostSite, HostSource};
 use std::process::ExitCode;
 use std::{env, io};
 
-// What happened, and what the user can do.
-fn advice(status: Status) -> Option<&'static str> {
+// What happened, and what the user can do: at each status but `Done`.
+fn advice(status: Status) -> Option<&'static str>
+    ensures { MatchOption result (status ≡ Status.Done) (λ _. status ≢ Status.Done) }
+{
     match status {
         Status::Done => None,
         Status::Words => Some("no words are taken: give the script on standard input"),
