@@ -51,7 +51,10 @@ fn a_store_is_written_and_opened_again(rt: HostRuntime) -> Result<(), Fail> {
     let b = Octets::from_slice(rt.alloc(), b"b")?;
     assert!(rt; store.get(&a).is_none());
     assert!(rt; has(&store, &b, b"2"));
-    assert_eq!(rt; store.pairs(None, None).count(), 1);
+    for (key, value) in store.pairs(None, None) {
+        assert_eq!(rt; key.as_slice(), b.as_slice());
+        assert_eq!(rt; value.as_slice(), b"2".as_slice());
+    }
     let opened = Store::open_site(rt.alloc(), &mut site).map_err(failed)?;
     assert!(rt; has(&opened, &b, b"2"));
     assert!(rt; !opened.is_broken());
