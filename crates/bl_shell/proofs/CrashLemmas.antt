@@ -1,12 +1,14 @@
 -- The cuts of a whole run.
-use Rattle.std.proofs.Common.{◌≡◌, inl, inr, arith, ℕ, ◌≤◌, List, [], ◌++◌, take, drop, Option, None, Some, refl, sym, ◌∙◌, ap, subst, append-nil}
+use Rattle.std.proofs.Common.{◌≡◌, inl, inr, arith, false, ℕ, ◌≤◌, List, [], ◌++◌, take, drop, Option, None, Some, refl, sym, ◌∙◌, ap, subst, append-nil}
 use Rattle.std.specs.Option.{option_map}
 use Rattle.std.proofs.lemmas.List.{take-append-drop}
-use Rattle.bl_site.specs.Disk.{Name, File, Folder, Disk, Cut, IsRemnant, IsLeft, MayLeave}
+use Rattle.bl_site.specs.Disk.{Name, File, Folder, Disk, Cut, IsRemnant, IsLeft, IsCut, MayLeave}
 use Rattle.bl_site.specs.Calls.{LeavesOnly, Tells}
 use Rattle.bl_site.proofs.Moments.{started, joins, widened}
 use Rattle.bl_script.specs.declared.command.Parsed.{Parsed}
 use Rattle.bl_store.specs.Cuts.{BeforeBarrier}
+use Rattle.bl_store.specs.Laws.{CutsStand, BatchesMakeMap}
+use Rattle.bl_store.specs.Stored.{Stored, Opens}
 use Rattle.bl_shell.specs.Machine.{Began}
 use Rattle.bl_shell.specs.declared.stop.Stop.{Stop}
 use Rattle.bl_shell.specs.declared.stop.Stop.TheVariants as stop
@@ -16,6 +18,9 @@ use Rattle.bl_shell.specs.Causes.{MayEnd, EndsAs, status_of}
 use Rattle.bl_shell.specs.Cuts.{IsErrorFront, told_only, CutOfRun, CutInRun, CutPast, CutStands, FromSomeMoment, HasStopped, Stops, StopsRun, TellsError, as_it_reads, given_before}
 use Rattle.bl_shell.specs.Synced.{CutOf}
 use Rattle.bl_shell.specs.Telling.{Begins, corrupt_line, full_line}
+use Rattle.bl_shell.proofs.CarriedLemmas.{cut_at_start}
+use Rattle.bl_shell.proofs.CutLemmas.{cut_of_more}
+use Rattle.bl_shell.proofs.TopLemmas.{began_of, begins_open, starts_open}
 
 abbrev no_error : IsErrorFront []
 no_error = record { line = full_line 0; is_error = inr (0, refl); rest = full_line 0; whole = refl }
@@ -106,6 +111,20 @@ module _ {D : Type 0} (clock : D → ℕ) (left_since : D → ℕ → Cut → Ty
     not_after = leaves.later;
     each = λ c left. (began, begins, (let R : List ℕ → Type 0 = λ t. CutOf began given t c in subst R same (leaves.each c left)));
   }
+
+  -- a disk as after an opening that ended well: what a cut may leave now
+  pub opened_now : CutsStand → BatchesMakeMap → (disk : D → Disk) (old new : D) (folder : Folder) (given : List Parsed) (store : Stored) → Opens folder store (disk new) → store.broken ≡ false
+      → clock old ≤ clock new → told new ≡ told old → ((c : Cut) → left_since new (clock new) c → IsCut (disk new) (told new) c) → FromSomeMoment clock left_since old new (CutPast folder given (told old))
+  opened_now law makes disk old new folder given store o usable later same now =
+      let began = began_of folder store (disk new) o in
+      let cut : (c : Cut) → IsCut (disk new) (told new) c → CutOf began given (told new) c = λ c is.
+      cut_of_more began [] given (told new) c (cut_at_start law makes began folder store (disk new) (told new) c (starts_open folder store (disk new) o usable) is) in
+      record {
+        moment = clock new;
+        not_before = later;
+        not_after = omega arith;
+        each = λ c left. (began, begins_open folder store (disk new) o makes, (let R : List ℕ → Type 0 = λ t. CutOf began given t c in subst R same (cut c (now c left))));
+      }
 
   pub past_unended : (old new : D) (folder : Folder) (given : List Parsed) → FromSomeMoment clock left_since old new (CutPast folder given (told old)) → FromSomeMoment clock left_since old new (CutStands folder given (told old))
   past_unended old new folder given past = record {

@@ -5,6 +5,8 @@ use Rattle.bl_site.specs.declared.site.SiteErr.{SiteErr}
 use Rattle.bl_site.specs.declared.site.SiteErr.TheVariants as failed
 use Rattle.bl_site.specs.Causes.{HasTellCause}
 use Rattle.bl_shell.specs.Carried.{TellsFront}
+use Rattle.bl_shell.specs.Causes.{stop_of}
+use Rattle.bl_shell.specs.declared.stop.Stop.TheVariants as stop
 
 -- some first bytes
 pub tells_count : (bytes told next : List ℕ) (count : ℕ) → next ≡ told ++ take count bytes → TellsFront bytes told next
@@ -36,3 +38,9 @@ pub tell_broke : {T : Type 0} (x : SiteErr) (before now : ℕ) (bytes reply told
 tell_broke failed.DiskFailed before now bytes reply told next same cause some none = absurd (cause.not_disk refl)
 tell_broke failed.TellFailed before now bytes reply told next same cause some none = tells_count reply told next (some refl).0 ((some refl).1 ∙ ap (λ b. told ++ take (some refl).0 b) same)
 tell_broke failed.OutOfMemory before now bytes reply told next same cause some none = tells_nothing reply told next (none refl)
+
+-- a failed call of the outside is no limit
+pub no_limit : (x : SiteErr) (limit : ℕ) → stop_of x ≡ stop.Full limit → ⊥
+no_limit failed.DiskFailed limit is = cc is
+no_limit failed.TellFailed limit is = cc is
+no_limit failed.OutOfMemory limit is = cc is

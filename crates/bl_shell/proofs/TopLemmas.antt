@@ -1,24 +1,25 @@
 -- A run, from its folder to its last line.
-use Rattle.std.proofs.Common.{false, arith, ◌≡◌, ◌⊎◌, inl, inr, ℕ, List, [], ◌++◌, refl, sym, ◌∙◌, ap, subst, append-nil}
+use Rattle.std.proofs.Common.{false, arith, ◌^◌, ◌≡◌, ◌⊎◌, inl, inr, ℕ, List, [], ◌++◌, refl, sym, ◌∙◌, ap, subst, append-nil}
 use Rattle.std.specs.FinMap.{empty}
-use Rattle.bl_site.specs.Disk.{Name, Folder, Disk}
+use Rattle.bl_site.specs.Disk.{Name, Folder, Disk, folder_of}
 use Rattle.bl_store.specs.declared.error.StoreErr.{StoreErr}
 use Rattle.bl_store.specs.declared.error.StoreErr.TheVariants as store
-use Rattle.bl_store.specs.Causes.{IsOpening as IsStoreOpening}
+use Rattle.bl_store.specs.Causes.{IsOpening as IsStoreOpening, IsRefusal as IsStoreRefusal}
 use Rattle.bl_store.specs.Damage.{IsDamaged}
 use Rattle.bl_store.specs.Folders.{Stands}
 use Rattle.bl_store.specs.Laws.{BatchesMakeMap}
 use Rattle.bl_store.specs.Logs.{after_batches}
-use Rattle.bl_store.specs.Stored.{Stored, Opens}
+use Rattle.bl_store.specs.Stored.{Stored, Opens, HasNextLog}
 use Rattle.bl_shell.specs.Machine.{Began}
 use Rattle.bl_shell.specs.declared.stop.Stop.{Stop}
 use Rattle.bl_shell.specs.declared.stop.Stop.TheVariants as stop
 use Rattle.bl_shell.specs.declared.status.Status.{Status}
-use Rattle.bl_shell.specs.declared.status.Status.TheVariants.{Words, ReadFault, Long, TellFault, DiskFault, OutOfMemory, Corrupt, Full}
+use Rattle.bl_shell.specs.declared.status.Status.TheVariants.{Done, Words, ReadFault, Long, TellFault, DiskFault, OutOfMemory, Corrupt, Full}
 use Rattle.bl_shell.specs.Causes.{IsForScript, IsInner, IsReading, IsSilent, IsOpening, IsRefusal, MayEnd, EndsAs, status_of, stop_of_store}
 use Rattle.bl_shell.specs.Carried.{Starts, TellsFront}
-use Rattle.bl_shell.specs.Cuts.{IsPastOpening}
+use Rattle.bl_shell.specs.Cuts.{IsPastOpening, StopsBeforeScript}
 use Rattle.bl_shell.specs.Telling.{Begins, HasBegun, HasEnded, PassesIn, IsFull, corrupt_line, full_line}
+use Rattle.bl_store.proofs.OtherLemmas.{same_no_next}
 use Rattle.bl_shell.proofs.BreakLemmas.{breaks_in}
 use Rattle.bl_shell.proofs.LimitLemmas.{ends}
 use Rattle.bl_shell.proofs.TellLemmas.{tells_nothing}
@@ -158,18 +159,7 @@ module _ (folder : Folder) (script told mid next : List ℕ) (status : Status) w
       let f = full limit refl in
       full_front f.0 limit f.1 f.2 (fulls limit refl) short
 
--- a failed opening stops a run for nothing that the script brings
-pub opening_is_inner : (e : StoreErr) → IsInner (stop_of_store e)
-opening_is_inner store.Disk = tt
-opening_is_inner store.OutOfMemory = tt
-opening_is_inner (store.Corrupt name place) = tt
-opening_is_inner (store.Full number) = tt
-opening_is_inner store.Broken = tt
-
-pub inner_of : (s : Stop) → s ≡ stop.OutOfMemory → IsInner s
-inner_of s is = subst IsInner (sym is) tt
-
--- so that the run's status is none of one that has read
+-- where an inner stop ends a run, its status is none of one that has read
 not_for_script : (s : Stop) → IsInner s → IsForScript (status_of s) → ⊥
 not_for_script stop.Read inner read = inner
 not_for_script stop.Tell inner read = read
@@ -185,15 +175,31 @@ unread_status s status inner may read = elim may [
   | inr more ↦ elim more [ inl is ↦ subst IsForScript is read | inr is ↦ subst IsForScript is read ]
 ]
 
--- a run that was stopped before it read anything is not past its opening
-pub not_past : (s : Stop) (status : Status) (left left_after : List ℕ) → IsInner s → MayEnd s status → left_after ≡ left → IsPastOpening status left left_after → ⊥
-not_past s status left left_after inner may same past = elim past [
-  | inl read ↦ unread_status s status inner may read
-  | inr ne ↦ ne same
+-- a run that was stopped before it read anything is past its opening where the next log was made
+pub only_made : (s : Stop) (status : Status) (left left_after : List ℕ) (made : Type 0) → IsInner s → MayEnd s status → left_after ≡ left → IsPastOpening status left left_after ⊎ made → made
+only_made s status left left_after made inner may same past = elim past [
+  | inl read ↦ elim read [ inl is ↦ absurd (unread_status s status inner may is) | inr ne ↦ absurd (ne same) ]
+  | inr is ↦ is
 ]
 
-pub words_are_not_past : (status : Status) (left left_after : List ℕ) → status ≡ Words → left_after ≡ left → IsPastOpening status left left_after → ⊥
-words_are_not_past status left left_after is same past = elim past [ inl read ↦ subst IsForScript is read | inr ne ↦ ne same ]
+-- which words do not do
+pub words_are_not_past : (folder : Folder) (disk : Disk) (status : Status) (left left_after : List ℕ) (made : Type 0) → folder ≡ folder_of disk → status ≡ Words → left_after ≡ left → (made → HasNextLog folder disk)
+    → IsPastOpening status left left_after ⊎ made → ⊥
+words_are_not_past folder disk status left left_after made as_it_was is same next past = elim past [
+  | inl read ↦ elim read [ inl for_script ↦ subst IsForScript is for_script | inr ne ↦ ne same ]
+  | inr it ↦ same_no_next folder disk as_it_was (next it)
+]
+
+-- a stop of the opening: at one with a line the folder reads as it did
+pub not_opened : (e : StoreErr) (folder : Folder) (disk : Disk) → (IsStoreRefusal e → folder_of disk ≡ folder) → StopsBeforeScript folder disk (stop_of_store e)
+not_opened store.Disk folder disk same = (tt, inl tt)
+not_opened store.OutOfMemory folder disk same = (tt, inl tt)
+not_opened (store.Corrupt name place) folder disk same = (tt, inr (same_no_next folder disk (sym (same tt))))
+not_opened (store.Full number) folder disk same = (tt, inr (same_no_next folder disk (sym (same tt))))
+not_opened store.Broken folder disk same = (tt, inl tt)
+
+pub unasked : (s : Stop) (folder : Folder) (disk : Disk) → s ≡ stop.OutOfMemory → StopsBeforeScript folder disk s
+unasked s folder disk is = subst (StopsBeforeScript folder disk) (sym is) (tt, inl tt)
 
 -- which stops end a run in a status for what the script brings
 for_script : (s : Stop) → IsForScript (status_of s) → IsReading s × IsSilent s
@@ -250,4 +256,30 @@ pub refused : (s : Stop) (status : Status) → IsOpening s → MayEnd s status �
 refused s status opening may = elim may [
   | inl same ↦ refused_as s status opening same
   | inr more ↦ elim more [ inl other ↦ inr (inr (inl other)) | inr other ↦ inr (inr (inr other)) ]
+]
+
+-- a folder of a log of the greatest number ends a run so, or at the limit
+pub at_the_limit : (s : Stop) (status : Status) → IsOpening s ⊎ (s ≡ stop.Full (10 ^ 15)) → MayEnd s status → (status ≡ Full) ⊎ IsRefusal status
+at_the_limit s status how may = elim how [
+  | inl opening ↦ inr (refused s status opening may)
+  | inr limit ↦ elim may [
+    | inl same ↦ inl (same ∙ ap status_of limit)
+    | inr more ↦ inr (elim more [ inl other ↦ inr (inr (inl other)) | inr other ↦ inr (inr (inr other)) ])
+  ]
+]
+
+no_stop_is_done : (s : Stop) → status_of s ≡ Done → ⊥
+no_stop_is_done stop.Read is = cc is
+no_stop_is_done stop.Tell is = cc is
+no_stop_is_done stop.Disk is = cc is
+no_stop_is_done stop.OutOfMemory is = cc is
+no_stop_is_done stop.Long is = cc is
+no_stop_is_done (stop.Corrupt name place) is = cc is
+no_stop_is_done (stop.Full limit) is = cc is
+
+-- a run that a stop ends is not done
+pub not_done : (s : Stop) (status : Status) → MayEnd s status → status ≡ Done → ⊥
+not_done s status may is = elim may [
+  | inl same ↦ no_stop_is_done s (sym same ∙ is)
+  | inr more ↦ elim more [ inl other ↦ cc (other, is) | inr other ↦ cc (other, is) ]
 ]

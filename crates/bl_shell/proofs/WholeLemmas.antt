@@ -1,8 +1,8 @@
 -- That logs have no unsynced byte, by what every cut leaves of them.
-use Rattle.std.proofs.Common.{◌≡◌, inl, inr, ℕ, ◌≤◌, List, [], ◌++◌, length, Option, None, Some, refl, sym, ◌∙◌, ap, arith, append-nil, length-append}
+use Rattle.std.proofs.Common.{◌≡◌, inl, inr, ℕ, List, [], ◌++◌, length, Option, None, Some, refl, sym, ◌∙◌, ap, arith, append-nil, length-append}
 use Rattle.std.specs.Option.{option_map}
 use Rattle.std.proofs.lemmas.List.{nil_from_length}
-use Rattle.bl_site.specs.Disk.{Name, File, Folder, Disk, Cut, IsRemnant, IsLeft, IsCut, written_of}
+use Rattle.bl_site.specs.Disk.{Name, File, Disk, Cut, IsRemnant, IsLeft, IsCut, written_of}
 use Rattle.bl_wal.specs.LogFile.{log_name}
 use Rattle.bl_store.specs.Cuts.{HasData, HasBytes, AreLeftWhole, AreWhole}
 use Rattle.bl_store.specs.Stored.{IsSynced}

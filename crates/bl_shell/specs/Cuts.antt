@@ -7,11 +7,12 @@ use Rattle.bl_script.specs.declared.command.Parsed.{Parsed}
 use Rattle.bl_wal.specs.LogFile.{log_name}
 use Rattle.bl_store.specs.Cuts.{BeforeBarrier, AreWhole}
 use Rattle.bl_store.specs.Folders.{LogStands}
-use Rattle.bl_store.specs.Stored.{IsSynced}
+use Rattle.bl_store.specs.Stored.{IsSynced, HasNextLog}
 use Rattle.bl_shell.specs.Machine.{State, Line, IsHistory, orders, orders_of, Began}
 use Rattle.bl_shell.specs.Synced.{CutOf}
 use Rattle.bl_shell.specs.declared.status.Status.{Status}
-use Rattle.bl_shell.specs.Causes.{IsForScript}
+use Rattle.bl_shell.specs.declared.stop.Stop.{Stop}
+use Rattle.bl_shell.specs.Causes.{IsForScript, IsInner, IsSilent}
 use Rattle.bl_shell.specs.Telling.{Begins, IsFull, PassesIn, corrupt_line, full_line}
 
 -- a front of a line that ends a run
@@ -57,9 +58,13 @@ pub record FromSomeMoment {D : Type 0} (clock : D → ℕ) (left_since : D → �
   pub not_after : moment ≤ clock new
   pub each : (c : Cut) → left_since new moment c → P c
 
--- A run is past its opening, and so past the barrier: the script was read to its end, or could not be read on, or a byte of it was taken.
+-- A run is past its opening, and so past the barrier: the script was read to its end, up to a failed read or up to the limit, or a byte of it was taken.
 abbrev pub IsPastOpening : Status → (left left_after : List ℕ) → Type 0
 IsPastOpening status left left_after = IsForScript status ⊎ (left_after ≢ left)
+
+-- A stop before the script is read. Where it has a line to tell, the next log was not made.
+abbrev pub StopsBeforeScript : Folder → Disk → Stop → Type 0
+StopsBeforeScript folder disk s = IsInner s × (IsSilent s ⊎ (HasNextLog folder disk → ⊥))
 
 -- the folder as it reads, with what was told and written so far, as a cut
 abbrev pub as_it_reads : Disk → List ℕ → Cut

@@ -7,10 +7,10 @@ ghost use Rattle.bl_site.specs.Causes.{Rose};
 ghost use Rattle.bl_wal.specs.LogFile.{log_name};
 ghost use Rattle.bl_store.specs.Cuts.{AreWhole};
 ghost use Rattle.bl_store.specs.Damage.{IsDamaged};
-ghost use Rattle.bl_store.specs.Stored.{KeepsOthers};
+ghost use Rattle.bl_store.specs.Stored.{KeepsOthers, HasNextLog};
 ghost use Rattle.bl_shell.specs.Causes.{IsInner, IsOpening, IsReading, IsRefusal, IsSilent, TookOver, status_of, MayEnd, EndsAs};
 ghost use Rattle.bl_shell.specs.Carried.{TellsFront};
-ghost use Rattle.bl_shell.specs.Cuts.{CutInRun, CutOfRun, CutPast, CutStands, FromSomeMoment, HasStopped, IsKept, IsPastOpening, StopsRun, TellsError, as_it_reads};
+ghost use Rattle.bl_shell.specs.Cuts.{CutInRun, CutOfRun, CutPast, CutStands, FromSomeMoment, StopsBeforeScript, HasStopped, IsKept, IsPastOpening, StopsRun, TellsError, as_it_reads};
 ghost use Rattle.bl_shell.specs.Machine.{orders};
 ghost use Rattle.bl_shell.specs.Telling.{HasRun, HasTaken, HasBegun, HasEnded, corrupt_line, full_line};
 
@@ -19,7 +19,9 @@ use crate::status::Status;
 use crate::stop::Stop;
 use bl_code::Octets;
 use bl_site::{Site, SiteErr, Source};
-use bl_store::{Store, batches_make_the_map, damaged_do_not_stand};
+use bl_store::{
+    Store, batches_make_the_map, cuts_stand, damaged_do_not_stand, older_logs_are_synced,
+};
 use std::alloc::Global;
 
 // How many bytes of the script are read at once.
@@ -44,8 +46,11 @@ fn run_on<R: Source, S: Site>(alloc: Global, script: &mut R, site: &mut S) -> Re
         → StopsRun (S.may_be site.old) (folder_of (S.disk site.old)) (R.left script.old) (S.told site.old) (S.told site.new) limit (LeavesOnly S.clock S.left_since site.old site.new) }
     ensures kept { S.shows → R.shows → OnOk result (IsKept (S.certain site.new) (S.may_be site.new) (S.disk site.new) (S.told site.new) (folder_of (S.disk site.old)) (R.left script.old)) }
     ensures cuts { S.shows → R.shows → LeavesOnly S.clock S.left_since site.old site.new (CutInRun (S.may_be site.old) (folder_of (S.disk site.old)) (orders (R.left script.old)) (S.told site.old)) }
-    ensures past { S.shows → R.shows → (IsErr result × IfErr result IsInner × (script.new ≡ script.old))
+    ensures past { S.shows → R.shows → (IsErr result × IfErr result (StopsBeforeScript (folder_of (S.disk site.old)) (S.disk site.new)) × (script.new ≡ script.old))
         ⊎ FromSomeMoment S.clock S.left_since site.old site.new (CutPast (folder_of (S.disk site.old)) (orders (R.left script.old)) (S.told site.old)) }
+    ensures made { S.shows → R.shows → HasNextLog (folder_of (S.disk site.old)) (S.disk site.new) → S.certain site.new
+        → FromSomeMoment S.clock S.left_since site.old site.new (CutPast (folder_of (S.disk site.old)) (orders (R.left script.old)) (S.told site.old)) }
+    ensures whole { S.shows → R.shows → HasNextLog (folder_of (S.disk site.old)) (S.disk site.new) → AreWhole (S.disk site.new) }
     ensures others { S.shows → KeepsOthers (S.disk site.old) (S.disk site.new) }
     ensures corrupt { S.shows → (name : Name) (place : ℕ) → result ≡ Err (Stop.Corrupt name place) → IsDamaged (folder_of (S.disk site.old)) name place
         × (S.told site.new ≡ S.told site.old) × (folder_of (S.disk site.new) ≡ folder_of (S.disk site.old)) }
@@ -60,6 +65,8 @@ fn run_on<R: Source, S: Site>(alloc: Global, script: &mut R, site: &mut S) -> Re
 {
     damaged_do_not_stand();
     batches_make_the_map();
+    cuts_stand();
+    older_logs_are_synced();
     let mut buffer = buffer_of(alloc, PIECE)?;
     let mut store = Store::open_site(alloc, site)?;
     serve(&mut store, alloc, &mut buffer, script, site)
@@ -177,12 +184,12 @@ pub fn run<R: Source, S: Site>(
     // fragment's checksum matches by chance, the folder left stands for the map after a prefix of the writes that holds each one acknowledged as synced, and none that passes the limit.
     ensures cuts { S.shows → R.shows → LeavesOnly S.clock S.left_since site.old site.new (CutOfRun (S.may_be site.old) (folder_of (S.disk site.old)) (orders (R.left script.old)) (S.told site.old)) }
 
-    // The barrier is over before a byte of the script is taken: from some moment on, no cut leaves what one before the run might have left instead.
-    ensures past { S.shows → R.shows → IsPastOpening result (R.left script.old) (R.left script.new)
+    // The barrier is over once the next log is made, before the script is read: from some moment on, no cut leaves what one before the run might have left instead.
+    ensures past { S.shows → R.shows → IsPastOpening result (R.left script.old) (R.left script.new) ⊎ (HasNextLog (folder_of (S.disk site.old)) (S.disk site.new) × S.certain site.new)
         → FromSomeMoment S.clock S.left_since site.old site.new (CutStands (folder_of (S.disk site.old)) (orders (R.left script.old)) (S.told site.old)) }
 
-    // Then, wherever a log has data, no log of a lower number has an unsynced byte.
-    ensures whole { S.shows → R.shows → IsPastOpening result (R.left script.old) (R.left script.new) → AreWhole (S.disk site.new) }
+    // Then, and also where a failed call left that log in doubt: wherever a log has data, no log of a lower number has an unsynced byte.
+    ensures whole { S.shows → R.shows → IsPastOpening result (R.left script.old) (R.left script.new) ⊎ HasNextLog (folder_of (S.disk site.old)) (S.disk site.new) → AreWhole (S.disk site.new) }
 
     // The folder as it reads is one that such a cut leaves.
     ensures reads { S.shows → R.shows → S.left_since site.new (S.clock site.old) (as_it_reads (S.disk site.new) (S.told site.new)) }

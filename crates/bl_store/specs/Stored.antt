@@ -1,5 +1,5 @@
 -- What a contract sees of a store, and how it stands on a disk.
-use Rattle.std.specs.Prelude.{◌≡◌, ◌≢◌, ◌⊎◌, ℕ, ◌+◌, ◌-◌, ◌<◌, ◌^◌, Bool, false, List, [], ◌∷◌, ◌++◌, length, map as mapped, Option, refl, None, Some}
+use Rattle.std.specs.Prelude.{◌≡◌, ◌≢◌, ◌⊎◌, ℕ, ◌+◌, ◌-◌, ◌<◌, ◌^◌, Bool, false, List, [], ◌∷◌, ◌++◌, length, map as mapped, Option, refl, IsSome, None, Some}
 use Rattle.std.specs.FinMap as map
 use Rattle.std.specs.FinMap.{empty, from_entries}
 use Rattle.std.specs.Coded.{Coded, code_by, coded×, coded_ℕ, coded_bool, coded_list}
@@ -103,3 +103,20 @@ pub record Opens (folder : Folder) (store : Stored) (disk : Disk) : Type 0 where
   pub carries : Carries store batches [] 0 disk
   pub next : IsNext folder store.log.number
   pub made : Makes (log_name store.log.number) folder (folder_of disk)
+
+-- No file was made: each name that is there was there.
+abbrev pub MakesNoFile : Disk → Disk → Type 0
+MakesNoFile old new = (name : Name) → IsSome (new name) → IsSome (old name)
+
+-- the next log of the folder was made: it is there
+pub record HasNextLog (folder : Folder) (disk : Disk) : Type 0 where
+  pub number : ℕ
+  pub is_number : IsNumber number
+  pub next : IsNext folder number
+  pub there : IsSome (disk (log_name number))
+
+-- some store was opened on the folder, and can write
+pub record IsOpened (folder : Folder) (disk : Disk) : Type 0 where
+  pub store : Stored
+  pub usable : store.broken ≡ false
+  pub opens : Opens folder store disk

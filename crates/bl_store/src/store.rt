@@ -12,7 +12,7 @@ ghost use Rattle.bl_wal.specs.Held.{Batches};
 ghost use Rattle.bl_store.specs.Damage.{IsDamaged};
 ghost use Rattle.bl_store.specs.Folders.{Stands};
 ghost use Rattle.bl_store.specs.Pairs.{pairs_between};
-ghost use Rattle.bl_store.specs.Stored.{StandsOn, next_batch, next_record, wrote, Carries, Opens, MayAppend, MayHold, KeepsAllBut, KeepsOthers};
+ghost use Rattle.bl_store.specs.Stored.{StandsOn, next_batch, next_record, wrote, Carries, Opens, MayAppend, MayHold, KeepsAllBut, KeepsOthers, HasNextLog, IsOpened};
 ghost use Rattle.bl_store.specs.Cuts.{BeforeBarrier, LeavesFirst};
 ghost use Rattle.bl_store.specs.Causes.{IsOpening, IsWriting, IsEnding, IsRefusal};
 
@@ -78,7 +78,7 @@ impl Store {
     /// Errors: `Corrupt` exactly where the folder holds a file of a store that is no log, then of the first such name and at
     /// place 0, or else where a log holds a record that is no batch or does not begin behind the last sequence, then of the
     /// first such log and at the place behind the record; `Full` with 10^15 exactly where the next log would have this
-    /// number; `Disk`; `OutOfMemory`.
+    /// number; `Disk`, after which the next log may be there or not; `OutOfMemory`.
     pub fn open_site<S: Site>(alloc: Global, site: &mut S) -> Result<Store, StoreErr>
         ensures opened { S.shows → IfOk result (λ store. Opens (folder_of (S.disk site.old)) store (S.disk site.new)) }
         ensures certain { S.shows → OnOk result (S.certain site.new) }
@@ -90,6 +90,9 @@ impl Store {
             × ((batches : Batches) × ((last : ℕ) × Stands (folder_of (S.disk site.old)) batches last)) }
         ensures same { S.shows → IfErr result (λ e. IsRefusal e → folder_of (S.disk site.new) ≡ folder_of (S.disk site.old)) }
         ensures stays_certain { S.shows → IfErr result (λ e. IsRefusal e → S.certain site.old → S.certain site.new) }
+
+        // Wherever the next log is there, the disk is as after an opening that ended well.
+        ensures made { S.shows → HasNextLog (folder_of (S.disk site.old)) (S.disk site.new) → IsOpened (folder_of (S.disk site.old)) (S.disk site.new) }
 
         // Until it has answered, a cut leaves what a cut before it might have left, perhaps with the next log besides, which is empty.
         ensures before { S.shows → LeavesOnly S.clock S.left_since site.old site.new (BeforeBarrier (folder_of (S.disk site.old)) (S.may_be site.old) (S.told site.old)) }

@@ -85,6 +85,30 @@ fn faults(rt: HostRuntime) -> Result<(), Fail> {
 }
 
 #[test]
+fn an_empty_script_whose_sync_fails(rt: HostRuntime) -> Result<(), Fail> {
+    // The first run makes the log (2) and writes to it (3); its second reply (5) is not told, so that the log is not synced.
+    // The second one lists (6), syncs that log (7), replays it (8 and 9) and makes the next (10), whose sync fails (11).
+    let mut site = MemSite::with_failures(rt.alloc(), &[5, 11])?;
+    let status = serve(rt.alloc(), b"put a =1\nget a\n", 64, &[], &mut site)?;
+    assert_eq!(rt; status, Status::TellFault);
+    let status = serve(rt.alloc(), b"", 64, &[], &mut site)?;
+    assert_eq!(rt; status, Status::DiskFault);
+    assert_eq!(rt; site.calls(), 11);
+    assert_eq!(rt; site.file("000003.log"), Some(b"".as_slice()));
+    for (at, want) in [
+        (6, b"end\n".as_slice()),
+        (10, b"pair a =1\nend\n".as_slice()),
+        (11, b"pair a =1\nend\n".as_slice()),
+    ] {
+        let mut cut = site.cut(at, 0, None)?;
+        let status = serve(rt.alloc(), b"scan\n", 64, &[], &mut cut)?;
+        assert_eq!(rt; status, Status::Done, "call {at}");
+        assert!(rt; told(&cut, want), "call {at}");
+    }
+    Ok(())
+}
+
+#[test]
 fn foreign_files(rt: HostRuntime) -> Result<(), Fail> {
     // A name that no store has is left alone.
     let mut site = MemSite::start(rt.alloc())?;

@@ -9,7 +9,7 @@ use Rattle.bl_shell.proofs.OnOk.{each_err, any_err}
 use Rattle.bl_shell.proofs.CutLemmas.{cut_quiet, leaves_first, least_within}
 use Rattle.bl_shell.proofs.MomentLemmas.{replied}
 use Rattle.bl_shell.proofs.StayLemmas.{reopened_line, stays_reopened, stands, corrupt_was}
-use Rattle.bl_shell.proofs.TellLemmas.{tell_broke, tells_nothing}
+use Rattle.bl_shell.proofs.TellLemmas.{no_limit, tell_broke, tells_nothing}
 use Rattle.bl_shell.proofs.LimitLemmas.{reopened_room}
 use Rattle.bl_store.proofs.OtherLemmas.{others_same, others_then}
 use Rattle.bl_shell.proofs.obey.do_reopen.Goals as goal
@@ -76,3 +76,8 @@ returns-in_err-tell-clause-others g c = λ shown. others_then _ _ _ (c.open_site
 
 pub returns-clause-others : goal.returns-clause-others
 returns-clause-others g c = λ shown. others_then _ _ _ (c.open_site.ensures.others shown) (others_same _ _ (c.tell.ensures.stays shown).same)
+
+pub returns-in_err-tell-clause-full_cuts : goal.returns-in_err-tell-clause-full_cuts
+returns-in_err-tell-clause-full_cuts g c = λ shown certain limit is.
+    let p = err_from_is_err_and c.from_residual-in_err-tell.result c.from_residual-in_err-tell.ensures.1 in
+    absurd (no_limit c.in_err-tell.field-0.0 limit (cc (is, p.1, p.2)))

@@ -1,11 +1,16 @@
 use Rattle.std.proofs.Common.{ℕ, List, [], refl, sym, subst, inl, inr, ap, ◌∙◌, Err}
-use Rattle.bl_site.specs.Disk.{folder_of}
+use Rattle.bl_site.specs.Disk.{Disk, folder_of}
 use Rattle.bl_site.proofs.Moments.{widened}
+use Rattle.bl_store.specs.Cuts.{AreWhole}
+use Rattle.bl_store.specs.Stored.{HasNextLog}
+use Rattle.bl_shell.specs.Cuts.{CutPast, CutStands, FromSomeMoment}
+use Rattle.bl_shell.specs.Machine.{orders}
 use Rattle.bl_shell.specs.Telling.{HasTaken}
 use Rattle.bl_shell.proofs.CrashLemmas.{ended, has_stopped, past_ended, past_unended, no_error_yet, reads_since, stop_is_full, untouched}
-use Rattle.bl_shell.proofs.TopLemmas.{ended_front, not_past, stop_is_reading, words_are_not_past, stop_is_corrupt, corrupt_told, refused}
+use Rattle.bl_shell.proofs.TopLemmas.{ended_front, only_made, stop_is_reading, words_are_not_past, stop_is_corrupt, corrupt_told, at_the_limit, not_done, refused}
 use Rattle.bl_shell.proofs.WholeLemmas.{whole_disk}
 use Rattle.bl_store.proofs.OtherLemmas.{others_same, others_then}
+use Rattle.bl_shell.proofs.top.run.Given as given
 use Rattle.bl_shell.proofs.top.run.Goals as goal
 
 pub returns-in-Ok-clause-done : goal.returns-in-Ok-clause-done
@@ -66,38 +71,64 @@ returns-in-Err-clause-full g c = λ shown known is.
     (ended g.S.Site.clock g.S.Site.left_since g.S.Site.told g.S.Site.may_be c.args.site.now mid c.end.new.site _ _ f.cuts (c.end.ensures.cuts shown) (λ t cut. g.met.S.Site.counts_now shown mid t cut))
 
 pub returns-then-not-is_empty-clause-past : goal.returns-then-not-is_empty-clause-past
-returns-then-not-is_empty-clause-past g c = λ shown known past. absurd (words_are_not_past _ _ _ refl refl past)
+returns-then-not-is_empty-clause-past g c = λ shown known past. absurd (words_are_not_past _ (g.S.Site.disk c.args.site.now) _ _ _ _ refl refl refl (λ made. made.0) past)
 
 pub returns-then-not-is_empty-clause-whole : goal.returns-then-not-is_empty-clause-whole
-returns-then-not-is_empty-clause-whole g c = λ shown known past. absurd (words_are_not_past _ _ _ refl refl past)
+returns-then-not-is_empty-clause-whole g c = λ shown known past. absurd (words_are_not_past _ (g.S.Site.disk c.args.site.now) _ _ _ _ refl refl refl (λ made. made) past)
 
-pub returns-in-Ok-clause-past : goal.returns-in-Ok-clause-past
-returns-in-Ok-clause-past g c = λ shown known past. elim (c.in-Ok.ensures.past shown known) [
+done_past : (g : given.Over) (c : goal.In-Ok g) → g.S.Site.shows → g.R.Source.shows
+    → FromSomeMoment g.S.Site.clock g.S.Site.left_since c.args.site.now c.run_on.new.site (CutStands (folder_of (g.S.Site.disk c.args.site.now)) (orders (g.R.Source.left c.args.script.now)) (g.S.Site.told c.args.site.now))
+done_past g c shown known = elim (c.in-Ok.ensures.past shown known) [
   | inl unread ↦ absurd (cc unread.0)
   | inr from ↦ past_unended g.S.Site.clock g.S.Site.left_since g.S.Site.told g.S.Site.may_be c.args.site.now c.run_on.new.site _ _ from
 ]
 
+pub returns-in-Ok-clause-past : goal.returns-in-Ok-clause-past
+returns-in-Ok-clause-past g c = λ shown known past. done_past g c shown known
+
 pub returns-in-Ok-clause-whole : goal.returns-in-Ok-clause-whole
 returns-in-Ok-clause-whole g c = λ shown known past.
     let site = c.run_on.new.site in
-    let from = returns-in-Ok-clause-past g c shown known past in
+    let from = done_past g c shown known in
     whole_disk (g.S.Site.disk site) (g.S.Site.told site) (λ name file. g.met.S.Site.remnant shown site name file)
     (λ cut is. (from.each cut (g.met.S.Site.counts_now shown site from.moment cut from.not_after (record { disk = g.S.Site.disk site; possible = g.met.S.Site.reads shown site; is_cut = is }))).stands.whole)
 
 pub returns-in-Err-clause-past : goal.returns-in-Err-clause-past
-returns-in-Err-clause-past g c = λ shown known past. elim (c.in-Err.ensures.past shown known) [
-  | inl unread ↦ absurd (not_past c.in-Err.stop c.end.result _ _ unread.1 c.end.ensures.ends (ap g.R.Source.left unread.2) past)
-  | inr from ↦
-      let mid = c.run_on.new.site in
-      past_ended g.S.Site.clock g.S.Site.left_since g.S.Site.told g.S.Site.may_be c.args.site.now mid c.end.new.site _ _ from (c.end.ensures.cuts shown) (λ t cut. g.met.S.Site.counts_now shown mid t cut)
-]
+returns-in-Err-clause-past g c = λ shown known past.
+    let site = g.S.Site in
+    let mid = c.run_on.new.site in
+    let stays = c.end.ensures.stays shown in
+    let folder = folder_of (site.disk c.args.site.now) in
+    let P : Type 0 = FromSomeMoment site.clock site.left_since c.args.site.now mid (CutPast folder (orders (g.R.Source.left c.args.script.now)) (site.told c.args.site.now)) in
+    let with_line = λ (from : P). past_ended site.clock site.left_since site.told site.may_be c.args.site.now mid c.end.new.site _ _ from (c.end.ensures.cuts shown) (λ t cut. g.met.S.Site.counts_now shown mid t cut) in
+    elim (c.in-Err.ensures.past shown known) [
+      | inl unread ↦
+          let made = only_made c.in-Err.stop c.end.result _ _ _ unread.1.0 c.end.ensures.ends (ap g.R.Source.left unread.2) past in
+          let Q : Disk → Type 0 = HasNextLog folder in
+          let next : HasNextLog folder (site.disk mid) = subst Q stays made.0 in
+          elim unread.1.1 [
+            | inl silent ↦ with_line (c.in-Err.ensures.made shown known next (subst site.certain (c.end.ensures.silent silent).1 made.1))
+            | inr unmade ↦ absurd (unmade next)
+          ]
+      | inr from ↦ with_line from
+    ]
 
 pub returns-in-Err-clause-whole : goal.returns-in-Err-clause-whole
 returns-in-Err-clause-whole g c = λ shown known past.
     let site = c.end.new.site in
-    let from = returns-in-Err-clause-past g c shown known past in
-    whole_disk (g.S.Site.disk site) (g.S.Site.told site) (λ name file. g.met.S.Site.remnant shown site name file)
-    (λ cut is. (from.each cut (g.met.S.Site.counts_now shown site from.moment cut from.not_after (record { disk = g.S.Site.disk site; possible = g.met.S.Site.reads shown site; is_cut = is }))).stands.whole)
+    let disk = g.S.Site.disk in
+    let stays = c.end.ensures.stays shown in
+    let here : AreWhole (disk c.run_on.new.site) → AreWhole (disk site) = λ whole. subst AreWhole (sym stays) whole in
+    elim (c.in-Err.ensures.past shown known) [
+      | inl unread ↦
+          let made = only_made c.in-Err.stop c.end.result _ _ _ unread.1.0 c.end.ensures.ends (ap g.R.Source.left unread.2) past in
+          let P : Disk → Type 0 = HasNextLog (folder_of (disk c.args.site.now)) in
+          here (c.in-Err.ensures.whole shown known (subst P stays made))
+      | inr from ↦
+          let mid = c.run_on.new.site in
+          here (whole_disk (disk mid) (g.S.Site.told mid) (λ name file. g.met.S.Site.remnant shown mid name file)
+          (λ cut is. (from.each cut (g.met.S.Site.counts_now shown mid from.moment cut from.not_after (record { disk = disk mid; possible = g.met.S.Site.reads shown mid; is_cut = is }))).2.whole))
+    ]
 
 pub returns-then-not-is_empty-clause-reads : goal.returns-then-not-is_empty-clause-reads
 returns-then-not-is_empty-clause-reads g c = λ shown known.
@@ -116,3 +147,12 @@ returns-in-Err-clause-reads g c = λ shown known.
 
 pub returns-in-Err-clause-others : goal.returns-in-Err-clause-others
 returns-in-Err-clause-others g c = λ shown. others_then _ _ _ (c.in-Err.ensures.others shown) (others_same _ _ (c.end.ensures.stays shown))
+
+pub returns-in-Err-clause-done : goal.returns-in-Err-clause-done
+returns-in-Err-clause-done g c = λ shown known is. absurd (not_done c.in-Err.stop c.end.result c.end.ensures.ends is)
+
+pub returns-in-Err-clause-kept : goal.returns-in-Err-clause-kept
+returns-in-Err-clause-kept g c = λ shown known is. absurd (not_done c.in-Err.stop c.end.result c.end.ensures.ends is)
+
+pub returns-in-Err-clause-limit : goal.returns-in-Err-clause-limit
+returns-in-Err-clause-limit g c = λ shown some. inr (at_the_limit c.in-Err.stop c.end.result (c.in-Err.ensures.limit shown some).1 c.end.ensures.ends)

@@ -1,15 +1,19 @@
 use Rattle.std.proofs.Common.{◌≡◌, ℕ, List, [], ◌∙◌, ap, sym, subst, refl, inl, inr, append-nil, arith, Err}
 use Rattle.std.proofs.lemmas.Result.{err_from_is_err_and}
 use Rattle.bl_site.specs.Disk.{folder_of}
-use Rattle.bl_site.proofs.Moments.{widened}
+use Rattle.bl_site.proofs.Moments.{widened, cut_of_only}
 use Rattle.bl_store.specs.declared.error.StoreErr.TheVariants as store
 use Rattle.bl_store.specs.Causes.{IsRefusal}
-use Rattle.bl_shell.specs.Causes.{IsInner, IsOpening, stop_of_store}
+use Rattle.bl_shell.specs.Causes.{IsOpening, stop_of_store}
+use Rattle.bl_shell.specs.Cuts.{CutPast, FromSomeMoment, StopsBeforeScript}
+use Rattle.bl_shell.specs.Machine.{orders}
 use Rattle.bl_shell.specs.Telling.{HasRun, HasTaken, HasBegun}
-use Rattle.bl_shell.proofs.CrashLemmas.{opened_past, opened_then, opened_stops, unopened}
+use Rattle.bl_shell.proofs.CrashLemmas.{opened_now, opened_past, opened_then, opened_stops, unopened}
 use Rattle.bl_shell.proofs.OnOk.{on_ok, if_err}
-use Rattle.bl_shell.proofs.TopLemmas.{began_of, inner_of, opening_is_inner, begins_open, starts_open, stands_open, opening_stops, stop_full, stop_corrupt}
-use Rattle.bl_store.proofs.OtherLemmas.{others_then}
+use Rattle.bl_shell.proofs.TopLemmas.{began_of, not_opened, unasked, begins_open, starts_open, stands_open, opening_stops, stop_full, stop_corrupt}
+use Rattle.bl_store.proofs.OtherLemmas.{others_then, same_no_next}
+use Rattle.bl_shell.proofs.WholeLemmas.{whole_disk}
+use Rattle.bl_shell.proofs.top.run_on.Given as given
 use Rattle.bl_shell.proofs.top.run_on.Goals as goal
 
 pub returns-in_err-store-clause-full : goal.returns-in_err-store-clause-full
@@ -112,23 +116,60 @@ returns-in_err-buffer-clause-cuts g c = λ shown known. unopened g.S.Site.clock 
 pub returns-in_err-buffer-clause-past : goal.returns-in_err-buffer-clause-past
 returns-in_err-buffer-clause-past g c =
     let p = err_from_is_err_and c.from_residual.result c.from_residual.ensures.1 in
-    rw p.1 (λ shown known. inl (refl, subst IsInner (sym (cc p.2)) (inner_of c.in_err-buffer.field-0.0 c.in_err-buffer.ensures.memory), refl))
+    rw p.1 (λ shown known. inl (refl, subst (StopsBeforeScript _ _) (sym (cc p.2)) (unasked c.in_err-buffer.field-0.0 _ _ c.in_err-buffer.ensures.memory), refl))
 
 pub returns-in_err-store-clause-past : goal.returns-in_err-store-clause-past
 returns-in_err-store-clause-past g c =
     let p = err_from_is_err_and c.from_residual-in_err-store.result c.from_residual-in_err-store.ensures.1 in
     let same : p.0 ≡ stop_of_store c.in_err-store.field-0.0 = cc p.2 in
-    rw p.1 (λ shown known. inl (refl, subst IsInner (sym same) (opening_is_inner c.in_err-store.field-0.0), refl))
+    rw p.1 (λ shown known. inl (refl, subst (StopsBeforeScript _ _) (sym same) (not_opened c.in_err-store.field-0.0 (folder_of (g.S.Site.disk c.args.site.now)) (g.S.Site.disk c.open_site.new.site) (c.in_err-store.ensures.same shown)), refl))
 
-pub returns-clause-past : goal.returns-clause-past
-returns-clause-past g c = λ shown known.
+-- the opening has ended well: from then on every cut is one of the lines behind it
+from_opening : (g : given.Over) (c : goal.After-drop-buffer-2 g) → g.S.Site.shows → g.R.Source.shows
+    → FromSomeMoment g.S.Site.clock g.S.Site.left_since c.args.site.now c.serve.new.site (CutPast (folder_of (g.S.Site.disk c.args.site.now)) (orders (g.R.Source.left c.args.script.now)) (g.S.Site.told c.args.site.now))
+from_opening g c shown known =
     let o = c.in_ok-store.ensures.opened shown in
     let folder = folder_of (g.S.Site.disk c.args.site.now) in
     let disk = g.S.Site.disk c.open_site.new.site in
     let began = began_of folder c.in_ok-store.store disk o in
-    inr (opened_past g.S.Site.clock g.S.Site.left_since g.S.Site.told g.S.Site.may_be c.args.site.now c.open_site.new.site c.serve.new.site folder _ began (begins_open folder c.in_ok-store.store disk o c.batches_make_the_map.ensures)
+    opened_past g.S.Site.clock g.S.Site.left_since g.S.Site.told g.S.Site.may_be c.args.site.now c.open_site.new.site c.serve.new.site folder _ began (begins_open folder c.in_ok-store.store disk o c.batches_make_the_map.ensures)
     (c.open_site.ensures.before shown).later
-    (c.serve.ensures.cuts shown known began folder (starts_open folder c.in_ok-store.store disk o c.in_ok-store.ensures.usable)) (c.in_ok-store.ensures.told shown))
+    (c.serve.ensures.cuts shown known began folder (starts_open folder c.in_ok-store.store disk o c.in_ok-store.ensures.usable)) (c.in_ok-store.ensures.told shown)
+
+pub returns-clause-past : goal.returns-clause-past
+returns-clause-past g c = λ shown known. inr (from_opening g c shown known)
+
+pub returns-clause-made : goal.returns-clause-made
+returns-clause-made g c = λ shown known next sure. from_opening g c shown known
+
+pub returns-clause-whole : goal.returns-clause-whole
+returns-clause-whole g c = λ shown known next.
+    let site = c.serve.new.site in
+    let from = from_opening g c shown known in
+    whole_disk (g.S.Site.disk site) (g.S.Site.told site) (λ name file. g.met.S.Site.remnant shown site name file)
+    (λ cut is. (from.each cut (g.met.S.Site.counts_now shown site from.moment cut from.not_after (record { disk = g.S.Site.disk site; possible = g.met.S.Site.reads shown site; is_cut = is }))).2.whole)
+
+pub returns-in_err-buffer-clause-made : goal.returns-in_err-buffer-clause-made
+returns-in_err-buffer-clause-made g c = λ shown known next sure. absurd (same_no_next _ (g.S.Site.disk c.args.site.now) refl next)
+
+pub returns-in_err-buffer-clause-whole : goal.returns-in_err-buffer-clause-whole
+returns-in_err-buffer-clause-whole g c = λ shown known next. absurd (same_no_next _ (g.S.Site.disk c.args.site.now) refl next)
+
+-- an opening that failed and made the next log
+pub returns-in_err-store-clause-made : goal.returns-in_err-store-clause-made
+returns-in_err-store-clause-made g c = λ shown known next sure.
+    let site = g.S.Site in
+    let new = c.open_site.new.site in
+    let is = c.in_err-store.ensures.made shown next in
+    opened_now site.clock site.left_since site.told site.may_be c.cuts_stand.ensures c.batches_make_the_map.ensures site.disk c.args.site.now new (folder_of (site.disk c.args.site.now)) _ is.store is.opens is.usable
+    (c.open_site.ensures.before shown).later (c.in_err-store.ensures.told shown)
+    (λ cut left. cut_of_only (site.may_be new) (site.disk new) (site.told new) cut (λ other. g.met.S.Site.only shown new other sure) (g.met.S.Site.only_now shown new cut left))
+
+pub returns-in_err-store-clause-whole : goal.returns-in_err-store-clause-whole
+returns-in_err-store-clause-whole g c = λ shown known next.
+    let is = c.in_err-store.ensures.made shown next in
+    let on = is.opens.carries.on in
+    c.older_logs_are_synced.ensures _ _ _ _ _ _ on
 
 pub returns-clause-damaged : goal.returns-clause-damaged
 returns-clause-damaged g c = λ shown name place damaged.

@@ -2,7 +2,7 @@ use Rattle.std.proofs.Common.{sym, subst}
 use Rattle.bl_site.specs.Disk.{Disk, MayLeave}
 use Rattle.bl_store.specs.Cuts.{LeavesFound, AreReadAsWritten}
 use Rattle.bl_store.proofs.CutLemmas.{all_found, then_left, then_found}
-use Rattle.bl_store.proofs.OtherLemmas.{others_same, others_then}
+use Rattle.bl_store.proofs.OtherLemmas.{others_same, others_then, same_makes_no_file, then_makes_no_file}
 use Rattle.bl_store.proofs.open.read_logs.Goals as goal
 
 pub returns-in_err-sync_logs-clause-others : goal.returns-in_err-sync_logs-clause-others
@@ -39,3 +39,17 @@ returns-clause-cuts g c = λ shown reads.
     let still = subst R (sym (c.list_logs.ensures.stays shown).same) reads in
     let second = then_left site.clock site.left_since site.told site.may_be old listed synced P (law.counts_now shown listed) (c.list_logs.ensures.cuts shown) (c.sync_logs.ensures.cuts shown still) in
     then_left site.clock site.left_since site.told site.may_be old synced c.replay_logs.new.site P (law.counts_now shown synced) second (c.replay_logs.ensures.cuts shown)
+
+pub returns-in_err-numbers-clause-no_file : goal.returns-in_err-numbers-clause-no_file
+returns-in_err-numbers-clause-no_file g c = λ shown. same_makes_no_file (g.S.Site.disk c.args.site.now) (g.S.Site.disk c.list_logs.new.site) (c.list_logs.ensures.stays shown).same
+
+pub returns-in_err-sync_logs-clause-no_file : goal.returns-in_err-sync_logs-clause-no_file
+returns-in_err-sync_logs-clause-no_file g c = λ shown.
+    let disk = g.S.Site.disk in
+    then_makes_no_file (disk c.args.site.now) (disk c.list_logs.new.site) (disk c.sync_logs.new.site) (same_makes_no_file (disk c.args.site.now) (disk c.list_logs.new.site) (c.list_logs.ensures.stays shown).same) (c.sync_logs.ensures.no_file shown)
+
+pub returns-clause-no_file : goal.returns-clause-no_file
+returns-clause-no_file g c = λ shown.
+    let disk = g.S.Site.disk in
+    let synced = then_makes_no_file (disk c.args.site.now) (disk c.list_logs.new.site) (disk c.sync_logs.new.site) (same_makes_no_file (disk c.args.site.now) (disk c.list_logs.new.site) (c.list_logs.ensures.stays shown).same) (c.sync_logs.ensures.no_file shown) in
+    then_makes_no_file (disk c.args.site.now) (disk c.sync_logs.new.site) (disk c.replay_logs.new.site) synced (same_makes_no_file (disk c.sync_logs.new.site) (disk c.replay_logs.new.site) (c.replay_logs.ensures.stays shown).same)

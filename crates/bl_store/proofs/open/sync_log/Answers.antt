@@ -1,7 +1,7 @@
 use Rattle.std.proofs.Common.{◌∙◌, ap, sym, subst}
 use Rattle.bl_site.specs.Disk.{Name}
 use Rattle.bl_store.specs.Stored.{KeepsAllBut}
-use Rattle.bl_store.proofs.OtherLemmas.{log_alone, sync_alone}
+use Rattle.bl_store.proofs.OtherLemmas.{log_alone, sync_alone, sync_makes_no_file}
 use Rattle.bl_site.proofs.Images.{sync_outcome}
 use Rattle.bl_store.proofs.CutLemmas.{SyncsOnce, once_found, once_left}
 use Rattle.bl_store.proofs.open.sync_log.Given as given
@@ -70,3 +70,9 @@ returns-clause-cuts g c = λ shown reads.
     let site = g.S.Site in
     once_left site.clock site.left_since site.disk site.told site.may_be c.as_str.result.now c.args.site.now c.sync.new.self (done g c shown)
     (λ file is. reads c.args.number file c.requires.number (ap (site.disk c.args.site.now) (sym (c.as_str.ensures.value ∙ c.in_ok-name.ensures)) ∙ is))
+
+pub returns-in_err-sync-clause-no_file : goal.returns-in_err-sync-clause-no_file
+returns-in_err-sync-clause-no_file g c = λ shown. sync_makes_no_file c.as_str.result.now _ _ (failed g c shown).outcome
+
+pub returns-clause-no_file : goal.returns-clause-no_file
+returns-clause-no_file g c = λ shown. sync_makes_no_file c.as_str.result.now _ _ (done g c shown).outcome

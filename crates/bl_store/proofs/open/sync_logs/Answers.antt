@@ -4,7 +4,7 @@ use Rattle.bl_site.specs.Disk.{Folder, MayLeave}
 use Rattle.bl_wal.specs.LogFile.{log_name}
 use Rattle.bl_store.proofs.FolderLemmas.{sync_keeps, sync_syncs, reads_there, at_place, all_synced}
 use Rattle.bl_store.proofs.CutLemmas.{no_call, all_found, then_left, then_found, sync_reads}
-use Rattle.bl_store.proofs.OtherLemmas.{others_then}
+use Rattle.bl_store.proofs.OtherLemmas.{others_then, then_makes_no_file}
 use Rattle.bl_store.proofs.open.sync_logs.Goals as goal
 
 pub sync_log-requires-clause-there : goal.sync_log-requires-clause-there
@@ -27,6 +27,7 @@ loop-number-preserved g c =
             | inr le ↦ inl (let same : k ≡ c.loop-number.number-index = omega (arith, lt, le) in ap (λ n. log_name (get_or c.args.numbers.now n 0)) same)
           ]);
       others = λ shown. others_then (g.S.Site.disk c.args.site.now) (g.S.Site.disk c.loop-number.site) (g.S.Site.disk c.sync_log.new.site) (i.others shown) (c.sync_log.ensures.others shown);
+      no_file = λ shown. then_makes_no_file (g.S.Site.disk c.args.site.now) (g.S.Site.disk c.loop-number.site) (g.S.Site.disk c.sync_log.new.site) (i.no_file shown) (c.sync_log.ensures.no_file shown);
       certain = λ shown sure. c.sync_log.ensures.certain shown (i.certain shown sure);
       before = λ shown.
           let site = g.S.Site in
@@ -76,6 +77,7 @@ loop-number-init g c =
       same = λ shown. refl;
       synced = λ shown k lt. absurd (omega (arith, lt));
       others = λ shown name ne. refl;
+      no_file = λ shown name some. some;
       certain = λ shown sure. sure;
       before = λ shown. all_found site.clock site.left_since site.told site.may_be old old (no_call site.clock site.left_since site.told site.may_be old (g.met.S.Site.only_now shown old));
       cuts = λ shown reads. (reads, no_call site.clock site.left_since site.told site.may_be old (g.met.S.Site.only_now shown old));
@@ -83,3 +85,7 @@ loop-number-init g c =
       later = omega arith;
       tell_faults = refl;
     }
+
+pub returns-in_err-sync_log-clause-no_file : goal.returns-in_err-sync_log-clause-no_file
+returns-in_err-sync_log-clause-no_file g c = λ shown.
+    then_makes_no_file (g.S.Site.disk c.args.site.now) (g.S.Site.disk c.loop-number.site) (g.S.Site.disk c.sync_log.new.site) (c.loop-number.invariant.no_file shown) (c.sync_log.ensures.no_file shown)

@@ -3,12 +3,12 @@ use Rattle.std.proofs.lemmas.Result.{err_from_is_err_and}
 use Rattle.bl_site.specs.Disk.{folder_of}
 use Rattle.bl_names.specs.Names.{IsNumber}
 use Rattle.bl_store.specs.declared.error.StoreErr.TheVariants.{Corrupt, Full}
-use Rattle.bl_wal.specs.LogFile.{log_name}
+use Rattle.bl_wal.specs.LogFile.{log_name, new_log}
 use Rattle.bl_store.specs.Stored.{Stored, map_in}
 use Rattle.bl_store.proofs.OpenLemmas.{none_left, next_is}
 use Rattle.bl_store.proofs.CarryLemmas.{WasRead, is_next, opens}
 use Rattle.bl_store.proofs.BarrierLemmas.{read_before, made_before, read_stands, made_stands, stands_reads}
-use Rattle.bl_store.proofs.OtherLemmas.{all_same, create_alone, log_alone, others_then}
+use Rattle.bl_store.proofs.OtherLemmas.{all_same, create_alone, log_alone, others_then, no_file_no_next, same_makes_no_file, then_makes_no_file}
 use Rattle.bl_store.proofs.store.Store.open_site.Goals as goal
 
 pub returns-clause-opened : goal.returns-clause-opened
@@ -139,3 +139,38 @@ returns-clause-cuts g c = λ shown sure log older own synced last whole on.
     c.names_one.ensures c.batches_are_once.ensures c.stores_stand.ensures mid c.create.new.site (map_in m.map.entries) m.last m.greatest c.in_ok-number.number whole
     (g.met.S.Site.counts_now shown mid) (c.read_logs.ensures.told shown) (λ other. g.met.S.Site.only shown mid other (c.read_logs.ensures.certain shown sure)) read next.0 next.1
     (c.read_logs.ensures.cuts shown (stands_reads log older own synced last (site.disk old) whole on)) (c.create.ensures.time shown)
+
+pub returns-in_err-memory-clause-made : goal.returns-in_err-memory-clause-made
+returns-in_err-memory-clause-made g c = λ shown next. absurd (no_file_no_next (g.S.Site.disk c.args.site.now) (g.S.Site.disk c.read_logs.new.site) (c.read_logs.ensures.no_file shown) next)
+
+pub returns-in_err-number-clause-made : goal.returns-in_err-number-clause-made
+returns-in_err-number-clause-made g c = λ shown next. absurd (no_file_no_next (g.S.Site.disk c.args.site.now) (g.S.Site.disk c.read_logs.new.site) (c.read_logs.ensures.no_file shown) next)
+
+pub returns-in_err-wal-clause-made : goal.returns-in_err-wal-clause-made
+returns-in_err-wal-clause-made g c = λ shown next.
+    let site = g.S.Site in
+    let folder = folder_of (site.disk c.args.site.now) in
+    let mid = site.disk c.read_logs.new.site in
+    let new = site.disk c.create.new.site in
+    let m = c.in_ok-memory.memory in
+    let found = c.in_ok-memory.ensures in
+    let number = c.in_ok-number.number in
+    let none = λ (same : new ≡ mid). absurd (no_file_no_next (site.disk c.args.site.now) new (then_makes_no_file (site.disk c.args.site.now) mid new (c.read_logs.ensures.no_file shown) (same_makes_no_file mid new same)) next) in
+    elim c.in_err-wal.ensures.causes [
+      | inl failed ↦ elim (c.in_err-wal.ensures.failed shown (ap Err failed)) [
+        | inl same ↦ none same
+        | inr made ↦
+            let read : WasRead folder mid (map_in m.map.entries) m.last m.greatest =
+            record { only = found.only shown; same = found.same shown; bound = found.bound; all = found.replayed shown; synced = found.synced shown } in
+            let store : Stored = record { log = new_log number; last = m.last; now = map_in m.map.entries; broken = false } in
+            record {
+              store = store;
+              usable = refl;
+              opens = opens c.names_one.ensures folder mid new store m.greatest number read c.in_ok-number.ensures.next.0 c.in_ok-number.ensures.next.1 made refl;
+            }
+      ]
+      | inr memory ↦ none (c.in_err-wal.ensures.memory shown (ap Err memory))
+    ]
+
+pub returns-clause-made : goal.returns-clause-made
+returns-clause-made g c = λ shown next. record { store = _; usable = refl; opens = returns-clause-opened g c shown }
