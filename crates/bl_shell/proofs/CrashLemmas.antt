@@ -1,14 +1,15 @@
 -- The cuts of a whole run.
-use Rattle.std.proofs.Common.{◌≡◌, inl, inr, arith, false, ℕ, ◌≤◌, List, [], ◌++◌, take, drop, Option, None, Some, refl, sym, ◌∙◌, ap, subst, append-nil}
+use Rattle.std.proofs.Common.{◌≡◌, inl, inr, arith, ℕ, ◌≤◌, List, [], ◌++◌, take, drop, Option, None, Some, refl, sym, ◌∙◌, ap, subst, append-nil}
 use Rattle.std.specs.Option.{option_map}
 use Rattle.std.proofs.lemmas.List.{take-append-drop}
-use Rattle.bl_site.specs.Disk.{Name, File, Folder, Disk, Cut, IsRemnant, IsLeft, IsCut, MayLeave}
+use Rattle.bl_site.specs.Disk.{Name, File, Folder, Disk, Cut, IsRemnant, IsLeft, IsCut, MayLeave, folder_of}
 use Rattle.bl_site.specs.Calls.{LeavesOnly, Tells}
 use Rattle.bl_site.proofs.Moments.{started, joins, widened}
 use Rattle.bl_script.specs.declared.command.Parsed.{Parsed}
-use Rattle.bl_store.specs.Cuts.{BeforeBarrier}
+use Rattle.bl_store.specs.Cuts.{BeforeBarrier, FindsOpened}
 use Rattle.bl_store.specs.Laws.{CutsStand, BatchesMakeMap}
-use Rattle.bl_store.specs.Stored.{Stored, Opens}
+use Rattle.bl_store.specs.Stored.{HasNextLog, IsOpened}
+use Rattle.bl_store.proofs.BehindLemmas.{finds_no_next, no_call_no_new}
 use Rattle.bl_shell.specs.Machine.{Began}
 use Rattle.bl_shell.specs.declared.stop.Stop.{Stop}
 use Rattle.bl_shell.specs.declared.stop.Stop.TheVariants as stop
@@ -57,6 +58,14 @@ with_error may_be folder given told replied error c is says (inr past) = inr (pa
 
 pub no_error_yet : (may_be : Disk → Type 0) (folder : Folder) (given : List Parsed) (told : List ℕ) (c : Cut) → CutInRun may_be folder given told c → CutOfRun may_be folder given told c
 no_error_yet may_be folder given told c cut = with_error may_be folder given told c.told [] c no_error (sym (append-nil c.told)) cut
+
+-- a cut that finds the disk as after an opening that ended well
+pub opened_cut : CutsStand → BatchesMakeMap → (folder : Folder) (given : List Parsed) (told : List ℕ) (c : Cut) → FindsOpened folder told c → CutPast folder given told c
+opened_cut law makes folder given told c f =
+    let store = f.opened.store in
+    let o = f.opened.opens in
+    let began = began_of folder store f.disk o in
+    (began, begins_open folder store f.disk o makes, cut_of_more began [] given told c (cut_at_start law makes began folder store f.disk told c (starts_open folder store f.disk o f.opened.usable) f.is_cut))
 
 module _ {D : Type 0} (clock : D → ℕ) (left_since : D → ℕ → Cut → Type 0) (told : D → List ℕ) (may_be : D → Disk → Type 0) where
   -- no call was made
@@ -112,19 +121,56 @@ module _ {D : Type 0} (clock : D → ℕ) (left_since : D → ℕ → Cut → Ty
     each = λ c left. (began, begins, (let R : List ℕ → Type 0 = λ t. CutOf began given t c in subst R same (leaves.each c left)));
   }
 
+  -- an opening that made the next log
+  pub failed_behind : CutsStand → BatchesMakeMap → (old new : D) (folder : Folder) (given : List Parsed) → LeavesOnly clock left_since old new (λ c. HasNextLog folder c.written → FindsOpened folder (told old) c)
+      → LeavesOnly clock left_since old new (λ c. HasNextLog folder c.written → CutPast folder given (told old) c)
+  failed_behind law makes old new folder given leaves = widened clock left_since old new _ _ (λ c opened next. opened_cut law makes folder given (told old) c (opened next)) leaves
+
+  pub unended_behind : (old new : D) (folder : Folder) (given : List Parsed) → LeavesOnly clock left_since old new (λ c. HasNextLog folder c.written → CutPast folder given (told old) c)
+      → LeavesOnly clock left_since old new (λ c. HasNextLog folder c.written → CutStands folder given (told old) c)
+  unended_behind old new folder given leaves =
+      widened clock left_since old new _ _ (λ c past next. past_with_error folder given (told old) c.told [] c no_error (sym (append-nil c.told)) (past next)) leaves
+
   -- a disk as after an opening that ended well: what a cut may leave now
-  pub opened_now : CutsStand → BatchesMakeMap → (disk : D → Disk) (old new : D) (folder : Folder) (given : List Parsed) (store : Stored) → Opens folder store (disk new) → store.broken ≡ false
-      → clock old ≤ clock new → told new ≡ told old → ((c : Cut) → left_since new (clock new) c → IsCut (disk new) (told new) c) → FromSomeMoment clock left_since old new (CutPast folder given (told old))
-  opened_now law makes disk old new folder given store o usable later same now =
-      let began = began_of folder store (disk new) o in
-      let cut : (c : Cut) → IsCut (disk new) (told new) c → CutOf began given (told new) c = λ c is.
-      cut_of_more began [] given (told new) c (cut_at_start law makes began folder store (disk new) (told new) c (starts_open folder store (disk new) o usable) is) in
-      record {
-        moment = clock new;
-        not_before = later;
-        not_after = omega arith;
-        each = λ c left. (began, begins_open folder store (disk new) o makes, (let R : List ℕ → Type 0 = λ t. CutOf began given t c in subst R same (cut c (now c left))));
-      }
+  pub opened_now : CutsStand → BatchesMakeMap → (disk : D → Disk) (old new : D) (folder : Folder) (given : List Parsed) → IsOpened folder (disk new) → clock old ≤ clock new → told new ≡ told old
+      → ((c : Cut) → left_since new (clock new) c → IsCut (disk new) (told new) c) → FromSomeMoment clock left_since old new (CutPast folder given (told old))
+  opened_now law makes disk old new folder given opened later same now = record {
+    moment = clock new;
+    not_before = later;
+    not_after = omega arith;
+    each = λ c left.
+        let Q : List ℕ → Type 0 = λ t. IsCut (disk new) t c in
+        opened_cut law makes folder given (told old) c (record { disk = disk new; opened = opened; is_cut = subst Q same (now c left) });
+  }
+
+  -- no call was made: no cut finds the next log
+  pub unopened_behind : (disk : D → Disk) (site : D) (Q : Cut → Type 0) → ((other : Disk) → may_be site other → other ≡ disk site) → ((c : Cut) → left_since site (clock site) c → MayLeave (may_be site) (told site) c)
+      → LeavesOnly clock left_since site site (λ c. HasNextLog (folder_of (disk site)) c.written → Q c)
+  unopened_behind disk site Q only now =
+      widened clock left_since site site _ _ (λ c none next. absurd (finds_no_next (disk site) c none next)) (no_call_no_new clock left_since disk told may_be site only now)
+
+  -- the opening, and the lines behind it
+  pub opened_behind : CutsStand → BatchesMakeMap → (old mid new : D) (folder : Folder) (given : List Parsed) (began : Began) → Begins folder began
+      → LeavesOnly clock left_since old mid (λ c. HasNextLog folder c.written → FindsOpened folder (told old) c) → LeavesOnly clock left_since mid new (CutOf began given (told mid)) → told mid ≡ told old
+      → LeavesOnly clock left_since old new (λ c. HasNextLog folder c.written → CutPast folder given (told old) c)
+  opened_behind law makes old mid new folder given began begins first second same =
+      let P : Cut → Type 0 = λ c. HasNextLog folder c.written → CutPast folder given (told old) c in
+      joins clock left_since old mid new P (failed_behind law makes old mid folder given first)
+      (widened clock left_since mid new _ P (λ c o next. (began, begins, (let R : List ℕ → Type 0 = λ t. CutOf began given t c in subst R same o))) second)
+
+  -- a line of an error is told
+  pub ended_behind : (old mid new : D) (folder : Folder) (given : List Parsed) → LeavesOnly clock left_since old mid (λ c. HasNextLog folder c.written → CutPast folder given (told old) c)
+      → LeavesOnly clock left_since mid new (TellsError (may_be mid) (told mid)) → ((t : ℕ) (c : Cut) → t ≤ clock mid → MayLeave (may_be mid) (told mid) c → left_since mid t c)
+      → LeavesOnly clock left_since old new (λ c. HasNextLog folder c.written → CutStands folder given (told old) c)
+  ended_behind old mid new folder given first second counts =
+      let P : Cut → Type 0 = λ c. HasNextLog folder c.written → CutStands folder given (told old) c in
+      joins clock left_since old mid new P (unended_behind old mid folder given first)
+      (widened clock left_since mid new _ P (λ c t next. past_with_error folder given (told old) (told mid) t.error c t.is_error t.leaves.is_cut.told_is
+      (first.each (told_only (told mid) c) (counts (clock old) (told_only (told mid) c) first.later (record {
+        disk = t.leaves.disk;
+        possible = t.leaves.possible;
+        is_cut = record { image = t.leaves.is_cut.image; told_is = refl; written_is = t.leaves.is_cut.written_is };
+      })) (record { number = next.number; is_number = next.is_number; next = next.next; there = next.there }))) second)
 
   pub past_unended : (old new : D) (folder : Folder) (given : List Parsed) → FromSomeMoment clock left_since old new (CutPast folder given (told old)) → FromSomeMoment clock left_since old new (CutStands folder given (told old))
   past_unended old new folder given past = record {

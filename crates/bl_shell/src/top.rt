@@ -51,6 +51,8 @@ fn run_on<R: Source, S: Site>(alloc: Global, script: &mut R, site: &mut S) -> Re
     ensures made { S.shows → R.shows → HasNextLog (folder_of (S.disk site.old)) (S.disk site.new) → S.certain site.new
         → FromSomeMoment S.clock S.left_since site.old site.new (CutPast (folder_of (S.disk site.old)) (orders (R.left script.old)) (S.told site.old)) }
     ensures whole { S.shows → R.shows → HasNextLog (folder_of (S.disk site.old)) (S.disk site.new) → AreWhole (S.disk site.new) }
+    ensures behind { S.shows → R.shows → S.certain site.old → LeavesOnly S.clock S.left_since site.old site.new
+        (λ c. HasNextLog (folder_of (S.disk site.old)) c.written → CutPast (folder_of (S.disk site.old)) (orders (R.left script.old)) (S.told site.old) c) }
     ensures others { S.shows → KeepsOthers (S.disk site.old) (S.disk site.new) }
     ensures corrupt { S.shows → (name : Name) (place : ℕ) → result ≡ Err (Stop.Corrupt name place) → IsDamaged (folder_of (S.disk site.old)) name place
         × (S.told site.new ≡ S.told site.old) × (folder_of (S.disk site.new) ≡ folder_of (S.disk site.old)) }
@@ -184,7 +186,11 @@ pub fn run<R: Source, S: Site>(
     // fragment's checksum matches by chance, the folder left stands for the map after a prefix of the writes that holds each one acknowledged as synced, and none that passes the limit.
     ensures cuts { S.shows → R.shows → LeavesOnly S.clock S.left_since site.old site.new (CutOfRun (S.may_be site.old) (folder_of (S.disk site.old)) (orders (R.left script.old)) (S.told site.old)) }
 
-    // The barrier is over once the next log is made, before the script is read: from some moment on, no cut leaves what one before the run might have left instead.
+    // The barrier is over once the next log is made, before the script is read: no cut that finds this log leaves what one before the run might have left instead.
+    ensures behind { S.shows → R.shows → S.certain site.old → LeavesOnly S.clock S.left_since site.old site.new
+        (λ c. HasNextLog (folder_of (S.disk site.old)) c.written → CutStands (folder_of (S.disk site.old)) (orders (R.left script.old)) (S.told site.old) c) }
+
+    // So it is from some moment on, whatever was in doubt as the run began.
     ensures past { S.shows → R.shows → IsPastOpening result (R.left script.old) (R.left script.new) ⊎ (HasNextLog (folder_of (S.disk site.old)) (S.disk site.new) × S.certain site.new)
         → FromSomeMoment S.clock S.left_since site.old site.new (CutStands (folder_of (S.disk site.old)) (orders (R.left script.old)) (S.told site.old)) }
 

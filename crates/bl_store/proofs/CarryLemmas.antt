@@ -1,5 +1,5 @@
 -- A store on its disk, from call to call.
-use Rattle.std.proofs.Common.{◌≡◌, ◌≢◌, Bool, Err, IsErrOf, append_assoc, ℕ, ◌+◌, ◌-◌, ◌^◌, ◌<◌, List, [], ◌∷◌, ◌++◌, map, length, Option, None, Some, IsSome, refl, sym, ◌∙◌, ap, subst, arith, append-nil, ◌⊎◌, inl, inr}
+use Rattle.std.proofs.Common.{false, ◌≡◌, ◌≢◌, Bool, Err, IsErrOf, append_assoc, ℕ, ◌+◌, ◌-◌, ◌^◌, ◌<◌, List, [], ◌∷◌, ◌++◌, map, length, Option, None, Some, IsSome, refl, sym, ◌∙◌, ap, subst, arith, append-nil, ◌⊎◌, inl, inr}
 use Rattle.std.proofs.lemmas.Bool.{cases_lt}
 use Rattle.std.proofs.lemmas.List.{map-append}
 use Rattle.std.specs.FinMap.{empty}
@@ -21,7 +21,7 @@ use Rattle.bl_wal.specs.Laws.{NextBatchIsRead}
 use Rattle.bl_store.specs.Logs.{bytes_in, after_batches}
 use Rattle.bl_store.specs.Folders.{HasOnlyLogs, IsOther, IsNext}
 use Rattle.bl_store.specs.Replaying.{HasAll}
-use Rattle.bl_store.specs.Stored.{Stored, next_batch, IsSynced, StandsOn, Carries, Makes, Opens}
+use Rattle.bl_store.specs.Stored.{Stored, next_batch, IsSynced, StandsOn, Carries, Makes, Opens, IsOpened}
 use Rattle.bl_store.proofs.BatchLemmas.{after_more, after_one}
 use Rattle.bl_store.proofs.FolderLemmas.{not_there, makes}
 use Rattle.bl_store.proofs.LogLemmas.{up_to_same, up_to_empty}
@@ -150,6 +150,12 @@ opens law folder before after store greatest number read is less made log =
       made = let N : ℕ → Type 0 = λ n. Makes (log_name n) folder (folder_of after) in
           subst N (sym (ap (λ (l : LogFile). l.number) log)) (subst M read.same (makes (log_name number) before after made));
     }
+
+pub is_opened : NamesOne → (folder : Folder) (before after : Disk) (now : Map) (last greatest number : ℕ) → WasRead folder before now last greatest
+    → number ≡ max (greatest + 1) 2 → number < 10 ^ 15 → Creates (log_name number) before after → IsOpened folder after
+is_opened law folder before after now last greatest number read is less made =
+    let store : Stored = record { log = new_log number; last = last; now = now; broken = false } in
+    record { store = store; usable = refl; opens = opens law folder before after store greatest number read is less made refl }
 
 -- after a write
 pub carried : NextBatchIsRead → NamesOne → (store : Stored) (log_next : LogFile) (last_next : ℕ) (now_next : Map) (broken : Bool) (operations : List Operation) (older own : List Batch) (synced : ℕ) (old new : Disk)

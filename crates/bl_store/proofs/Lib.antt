@@ -15,3 +15,4 @@ mod OperationLemmas
 mod ReplayLemmas
 mod OnOk
 pub mod OtherLemmas
+pub mod BehindLemmas

@@ -51,8 +51,8 @@ sync_makes_no_file name old new outcome = elim outcome [
 ]
 
 -- so the next log of the folder is not there
-pub no_next : (folder : Folder) (disk : Disk) → ((name : Name) → IsSome (disk name) → IsSome (folder name)) → HasNextLog folder disk → ⊥
-no_next folder disk were h = omega (arith, h.next.above h.number h.is_number (were (log_name h.number) h.there))
+pub no_next : {A : Type 0} (folder : Folder) (files : Name → Option A) → ((name : Name) → IsSome (files name) → IsSome (folder name)) → HasNextLog folder files → ⊥
+no_next folder files were h = omega (arith, h.next.above h.number h.is_number (were (log_name h.number) h.there))
 
 pub no_file_no_next : (old new : Disk) → MakesNoFile old new → HasNextLog (folder_of old) new → ⊥
 no_file_no_next old new none = no_next (folder_of old) new (λ name some. there_reads (old name) (none name some))

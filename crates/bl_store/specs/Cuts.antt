@@ -1,12 +1,12 @@
 -- What a power cut leaves of a store's folder.
-use Rattle.std.specs.Prelude.{◌≡◌, ◌⊎◌, ℕ, ◌<◌, ◌≤◌, ◌^◌, List, [], ◌++◌, length, take, Option, None, Some}
-use Rattle.bl_site.specs.Disk.{File, Folder, Disk, Cut, IsImage}
+use Rattle.std.specs.Prelude.{◌≡◌, ◌⊎◌, ℕ, ◌<◌, ◌≤◌, ◌^◌, List, [], ◌++◌, length, take, Option, IsSome, None, Some}
+use Rattle.bl_site.specs.Disk.{Name, File, Folder, Disk, Cut, IsImage, IsCut}
 use Rattle.bl_names.specs.Names.{IsNumber}
 use Rattle.bl_entry.specs.Batches.{Batch}
 use Rattle.bl_wal.specs.LogFile.{log_name}
 use Rattle.bl_records.specs.Chance.{NoChanceMatch}
 use Rattle.bl_store.specs.Folders.{Stands, IsNext}
-use Rattle.bl_store.specs.Stored.{IsSynced, Makes}
+use Rattle.bl_store.specs.Stored.{IsSynced, IsOpened, Makes}
 
 -- a cut might find this folder, of the disks that there may be
 abbrev pub MayBeFound : (Disk → Type 0) → Folder → Type 0
@@ -46,6 +46,16 @@ pub record LeavesFirst (older own : List Batch) (least : ℕ) (told : List ℕ) 
   pub told_is : c.told ≡ told
   pub whole : AreLeftWhole c
   pub stands : NoChanceMatch c.folder c.written → (count : ℕ) × (least ≤ count) × (count ≤ length own) × ((left : ℕ) × Stands c.folder (older ++ take count own) left)
+
+-- it finds no file that was not there
+abbrev pub FindsNoNewFile : Disk → Cut → Type 0
+FindsNoNewFile disk c = (name : Name) → IsSome (c.written name) → IsSome (disk name)
+
+-- it finds the disk as after an opening that ended well
+pub record FindsOpened (folder : Folder) (told : List ℕ) (c : Cut) : Type 0 where
+  pub disk : Disk
+  pub opened : IsOpened folder disk
+  pub is_cut : IsCut disk told c
 
 -- a file that has a byte, as it reads or as it is written
 abbrev pub HasData : Option File → Type 0

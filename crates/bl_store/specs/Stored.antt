@@ -108,12 +108,12 @@ pub record Opens (folder : Folder) (store : Stored) (disk : Disk) : Type 0 where
 abbrev pub MakesNoFile : Disk → Disk → Type 0
 MakesNoFile old new = (name : Name) → IsSome (new name) → IsSome (old name)
 
--- the next log of the folder was made: it is there
-pub record HasNextLog (folder : Folder) (disk : Disk) : Type 0 where
+-- the next log of the folder was made: it is among these files
+pub record HasNextLog {A : Type 0} (folder : Folder) (files : Name → Option A) : Type 0 where
   pub number : ℕ
   pub is_number : IsNumber number
   pub next : IsNext folder number
-  pub there : IsSome (disk (log_name number))
+  pub there : IsSome (files (log_name number))
 
 -- some store was opened on the folder, and can write
 pub record IsOpened (folder : Folder) (disk : Disk) : Type 0 where

@@ -11,7 +11,7 @@ ghost use Rattle.bl_store.specs.Damage.{BreaksAt, IsDamaged};
 ghost use Rattle.bl_store.specs.Listing.{AreLogsAbove};
 ghost use Rattle.bl_store.specs.Replaying.{HasReplayed, HasAll};
 ghost use Rattle.bl_store.specs.Stored.{map_in, IsSynced, KeepsOthers, MakesNoFile};
-ghost use Rattle.bl_store.specs.Cuts.{LeavesFound, AreReadAsWritten};
+ghost use Rattle.bl_store.specs.Cuts.{LeavesFound, AreReadAsWritten, FindsNoNewFile};
 ghost use Rattle.bl_store.specs.Causes.{IsReading, IsRefusal, IsSyncing};
 
 use crate::error::StoreErr;
@@ -64,6 +64,7 @@ fn sync_log<S: Site>(alloc: Global, site: &mut S, number: u64) -> Result<(), Sto
     ensures done { S.shows → OnOk result (Syncs (log_name number) (S.disk site.old) (S.disk site.new)) }
     ensures others { S.shows → KeepsOthers (S.disk site.old) (S.disk site.new) }
     ensures no_file { S.shows → MakesNoFile (S.disk site.old) (S.disk site.new) }
+    ensures no_new { S.shows → S.certain site.old → LeavesOnly S.clock S.left_since site.old site.new (FindsNoNewFile (S.disk site.old)) }
     ensures certain { S.shows → S.certain site.old → S.certain site.new }
     ensures before { S.shows → LeavesOnly S.clock S.left_since site.old site.new (LeavesFound (S.may_be site.old) (S.told site.old)) }
     ensures cuts { S.shows → AreReadAsWritten (S.disk site.old) → LeavesOnly S.clock S.left_since site.old site.new (MayLeave (S.may_be site.old) (S.told site.old)) }
@@ -87,6 +88,7 @@ fn sync_logs<S: Site>(alloc: Global, site: &mut S, numbers: &[u64]) -> Result<()
     ensures synced { S.shows → OnOk result ((number : ℕ) → IsNumber number → IsSynced (S.disk site.new (log_name number))) }
     ensures others { S.shows → KeepsOthers (S.disk site.old) (S.disk site.new) }
     ensures no_file { S.shows → MakesNoFile (S.disk site.old) (S.disk site.new) }
+    ensures no_new { S.shows → S.certain site.old → LeavesOnly S.clock S.left_since site.old site.new (FindsNoNewFile (S.disk site.old)) }
     ensures certain { S.shows → S.certain site.old → S.certain site.new }
     ensures before { S.shows → LeavesOnly S.clock S.left_since site.old site.new (LeavesFound (S.may_be site.old) (S.told site.old)) }
     ensures cuts { S.shows → AreReadAsWritten (S.disk site.old) → LeavesOnly S.clock S.left_since site.old site.new (MayLeave (S.may_be site.old) (S.told site.old)) }
@@ -165,6 +167,7 @@ pub(crate) fn read_logs<S: Site>(alloc: Global, site: &mut S) -> Result<Memory, 
     ensures synced { S.shows → OnOk result ((number : ℕ) → IsNumber number → IsSynced (S.disk site.new (log_name number))) }
     ensures others { S.shows → KeepsOthers (S.disk site.old) (S.disk site.new) }
     ensures no_file { S.shows → MakesNoFile (S.disk site.old) (S.disk site.new) }
+    ensures no_new { S.shows → S.certain site.old → LeavesOnly S.clock S.left_since site.old site.new (FindsNoNewFile (S.disk site.old)) }
     ensures replayed { S.shows → IfOk result (λ m. HasAll (folder_of (S.disk site.old)) (map_in m.map.entries) m.last m.greatest) }
     ensures bound { IfOk result (λ m. m.greatest < 10 ^ 15) }
     ensures corrupt { S.shows → (name : Name) (place : ℕ) → result ≡ Err (StoreErr.Corrupt name place) → IsDamaged (folder_of (S.disk site.old)) name place }

@@ -13,7 +13,7 @@ ghost use Rattle.bl_store.specs.Damage.{IsDamaged};
 ghost use Rattle.bl_store.specs.Folders.{Stands};
 ghost use Rattle.bl_store.specs.Pairs.{pairs_between};
 ghost use Rattle.bl_store.specs.Stored.{StandsOn, next_batch, next_record, wrote, Carries, Opens, MayAppend, MayHold, KeepsAllBut, KeepsOthers, HasNextLog, IsOpened};
-ghost use Rattle.bl_store.specs.Cuts.{BeforeBarrier, LeavesFirst};
+ghost use Rattle.bl_store.specs.Cuts.{BeforeBarrier, FindsOpened, LeavesFirst};
 ghost use Rattle.bl_store.specs.Causes.{IsOpening, IsWriting, IsEnding, IsRefusal};
 
 use crate::error::StoreErr;
@@ -96,6 +96,10 @@ impl Store {
 
         // Until it has answered, a cut leaves what a cut before it might have left, perhaps with the next log besides, which is empty.
         ensures before { S.shows → LeavesOnly S.clock S.left_since site.old site.new (BeforeBarrier (folder_of (S.disk site.old)) (S.may_be site.old) (S.told site.old)) }
+
+        // The barrier is over once that log is made: a cut that finds it finds the disk as after an opening that ended well.
+        ensures behind { S.shows → S.certain site.old → LeavesOnly S.clock S.left_since site.old site.new
+            (λ c. HasNextLog (folder_of (S.disk site.old)) c.written → FindsOpened (folder_of (S.disk site.old)) (S.told site.old) c) }
 
         // Of a store that stands on the disk, it leaves no synced batch out.
         ensures cuts { S.shows → S.certain site.old → (log : LogFile) (older own : Batches) (synced last : ℕ) → log.failed ≡ false → StandsOn log older own synced last (S.disk site.old)

@@ -6,7 +6,7 @@ use Rattle.bl_store.specs.Stored.{HasNextLog}
 use Rattle.bl_shell.specs.Cuts.{CutPast, CutStands, FromSomeMoment}
 use Rattle.bl_shell.specs.Machine.{orders}
 use Rattle.bl_shell.specs.Telling.{HasTaken}
-use Rattle.bl_shell.proofs.CrashLemmas.{ended, has_stopped, past_ended, past_unended, no_error_yet, reads_since, stop_is_full, untouched}
+use Rattle.bl_shell.proofs.CrashLemmas.{ended, ended_behind, unended_behind, unopened_behind, has_stopped, past_ended, past_unended, no_error_yet, reads_since, stop_is_full, untouched}
 use Rattle.bl_shell.proofs.TopLemmas.{ended_front, only_made, stop_is_reading, words_are_not_past, stop_is_corrupt, corrupt_told, at_the_limit, not_done, refused}
 use Rattle.bl_shell.proofs.WholeLemmas.{whole_disk}
 use Rattle.bl_store.proofs.OtherLemmas.{others_same, others_then}
@@ -156,3 +156,18 @@ returns-in-Err-clause-kept g c = λ shown known is. absurd (not_done c.in-Err.st
 
 pub returns-in-Err-clause-limit : goal.returns-in-Err-clause-limit
 returns-in-Err-clause-limit g c = λ shown some. inr (at_the_limit c.in-Err.stop c.end.result (c.in-Err.ensures.limit shown some).1 c.end.ensures.ends)
+
+pub returns-then-not-is_empty-clause-behind : goal.returns-then-not-is_empty-clause-behind
+returns-then-not-is_empty-clause-behind g c = λ shown known sure.
+    let site = g.S.Site in
+    let old = c.args.site.now in
+    unopened_behind site.clock site.left_since site.told site.may_be site.disk old (CutStands _ _ _) (λ other. g.met.S.Site.only shown old other sure) (g.met.S.Site.only_now shown old)
+
+pub returns-in-Ok-clause-behind : goal.returns-in-Ok-clause-behind
+returns-in-Ok-clause-behind g c = λ shown known sure.
+    unended_behind g.S.Site.clock g.S.Site.left_since g.S.Site.told g.S.Site.may_be c.args.site.now c.run_on.new.site _ _ (c.in-Ok.ensures.behind shown known sure)
+
+pub returns-in-Err-clause-behind : goal.returns-in-Err-clause-behind
+returns-in-Err-clause-behind g c = λ shown known sure.
+    let mid = c.run_on.new.site in
+    ended_behind g.S.Site.clock g.S.Site.left_since g.S.Site.told g.S.Site.may_be c.args.site.now mid c.end.new.site _ _ (c.in-Err.ensures.behind shown known sure) (c.end.ensures.cuts shown) (λ t cut. g.met.S.Site.counts_now shown mid t cut)

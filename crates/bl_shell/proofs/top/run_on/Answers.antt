@@ -8,7 +8,7 @@ use Rattle.bl_shell.specs.Causes.{IsOpening, stop_of_store}
 use Rattle.bl_shell.specs.Cuts.{CutPast, FromSomeMoment, StopsBeforeScript}
 use Rattle.bl_shell.specs.Machine.{orders}
 use Rattle.bl_shell.specs.Telling.{HasRun, HasTaken, HasBegun}
-use Rattle.bl_shell.proofs.CrashLemmas.{opened_now, opened_past, opened_then, opened_stops, unopened}
+use Rattle.bl_shell.proofs.CrashLemmas.{failed_behind, opened_behind, unopened_behind, opened_now, opened_past, opened_then, opened_stops, unopened}
 use Rattle.bl_shell.proofs.OnOk.{on_ok, if_err}
 use Rattle.bl_shell.proofs.TopLemmas.{began_of, not_opened, unasked, begins_open, starts_open, stands_open, opening_stops, stop_full, stop_corrupt}
 use Rattle.bl_store.proofs.OtherLemmas.{others_then, same_no_next}
@@ -161,7 +161,7 @@ returns-in_err-store-clause-made g c = λ shown known next sure.
     let site = g.S.Site in
     let new = c.open_site.new.site in
     let is = c.in_err-store.ensures.made shown next in
-    opened_now site.clock site.left_since site.told site.may_be c.cuts_stand.ensures c.batches_make_the_map.ensures site.disk c.args.site.now new (folder_of (site.disk c.args.site.now)) _ is.store is.opens is.usable
+    opened_now site.clock site.left_since site.told site.may_be c.cuts_stand.ensures c.batches_make_the_map.ensures site.disk c.args.site.now new (folder_of (site.disk c.args.site.now)) _ is
     (c.open_site.ensures.before shown).later (c.in_err-store.ensures.told shown)
     (λ cut left. cut_of_only (site.may_be new) (site.disk new) (site.told new) cut (λ other. g.met.S.Site.only shown new other sure) (g.met.S.Site.only_now shown new cut left))
 
@@ -182,3 +182,26 @@ returns-clause-later g c = omega (arith, c.serve.ensures.later, c.in_ok-store.en
 
 pub returns-clause-others : goal.returns-clause-others
 returns-clause-others g c = λ shown. others_then _ _ _ (c.open_site.ensures.others shown) (c.serve.ensures.others shown)
+
+pub returns-in_err-buffer-clause-behind : goal.returns-in_err-buffer-clause-behind
+returns-in_err-buffer-clause-behind g c = λ shown known sure.
+    let site = g.S.Site in
+    let old = c.args.site.now in
+    unopened_behind site.clock site.left_since site.told site.may_be site.disk old (CutPast _ _ _) (λ other. g.met.S.Site.only shown old other sure) (g.met.S.Site.only_now shown old)
+
+pub returns-in_err-store-clause-behind : goal.returns-in_err-store-clause-behind
+returns-in_err-store-clause-behind g c = λ shown known sure.
+    let site = g.S.Site in
+    failed_behind site.clock site.left_since site.told site.may_be c.cuts_stand.ensures c.batches_make_the_map.ensures c.args.site.now c.open_site.new.site (folder_of (site.disk c.args.site.now)) _
+    (c.open_site.ensures.behind shown sure)
+
+pub returns-clause-behind : goal.returns-clause-behind
+returns-clause-behind g c = λ shown known sure.
+    let site = g.S.Site in
+    let o = c.in_ok-store.ensures.opened shown in
+    let folder = folder_of (site.disk c.args.site.now) in
+    let disk = site.disk c.open_site.new.site in
+    let began = began_of folder c.in_ok-store.store disk o in
+    opened_behind site.clock site.left_since site.told site.may_be c.cuts_stand.ensures c.batches_make_the_map.ensures c.args.site.now c.open_site.new.site c.serve.new.site folder _ began
+    (begins_open folder c.in_ok-store.store disk o c.batches_make_the_map.ensures) (c.open_site.ensures.behind shown sure)
+    (c.serve.ensures.cuts shown known began folder (starts_open folder c.in_ok-store.store disk o c.in_ok-store.ensures.usable)) (c.in_ok-store.ensures.told shown)

@@ -1,6 +1,7 @@
 use Rattle.std.proofs.Common.{sym, subst}
 use Rattle.bl_site.specs.Disk.{Disk, MayLeave}
 use Rattle.bl_store.specs.Cuts.{LeavesFound, AreReadAsWritten}
+use Rattle.bl_store.proofs.BehindLemmas.{reads_no_new, then_no_new}
 use Rattle.bl_store.proofs.CutLemmas.{all_found, then_left, then_found}
 use Rattle.bl_store.proofs.OtherLemmas.{others_same, others_then, same_makes_no_file, then_makes_no_file}
 use Rattle.bl_store.proofs.open.read_logs.Goals as goal
@@ -53,3 +54,32 @@ returns-clause-no_file g c = λ shown.
     let disk = g.S.Site.disk in
     let synced = then_makes_no_file (disk c.args.site.now) (disk c.list_logs.new.site) (disk c.sync_logs.new.site) (same_makes_no_file (disk c.args.site.now) (disk c.list_logs.new.site) (c.list_logs.ensures.stays shown).same) (c.sync_logs.ensures.no_file shown) in
     then_makes_no_file (disk c.args.site.now) (disk c.sync_logs.new.site) (disk c.replay_logs.new.site) synced (same_makes_no_file (disk c.sync_logs.new.site) (disk c.replay_logs.new.site) (c.replay_logs.ensures.stays shown).same)
+
+pub returns-in_err-numbers-clause-no_new : goal.returns-in_err-numbers-clause-no_new
+returns-in_err-numbers-clause-no_new g c = λ shown sure.
+    let site = g.S.Site in
+    let old = c.args.site.now in
+    reads_no_new site.clock site.left_since site.disk site.told site.may_be old c.list_logs.new.site (λ other. g.met.S.Site.only shown old other sure) (c.list_logs.ensures.cuts shown)
+
+pub returns-in_err-sync_logs-clause-no_new : goal.returns-in_err-sync_logs-clause-no_new
+returns-in_err-sync_logs-clause-no_new g c = λ shown sure.
+    let site = g.S.Site in
+    let old = c.args.site.now in
+    let listed = c.list_logs.new.site in
+    then_no_new site.clock site.left_since site.disk site.told site.may_be old listed c.sync_logs.new.site (same_makes_no_file (site.disk old) (site.disk listed) (c.list_logs.ensures.stays shown).same)
+    (reads_no_new site.clock site.left_since site.disk site.told site.may_be old listed (λ other. g.met.S.Site.only shown old other sure) (c.list_logs.ensures.cuts shown))
+    (c.sync_logs.ensures.no_new shown ((c.list_logs.ensures.stays shown).certain_stays sure))
+
+pub returns-clause-no_new : goal.returns-clause-no_new
+returns-clause-no_new g c = λ shown sure.
+    let site = g.S.Site in
+    let old = c.args.site.now in
+    let listed = c.list_logs.new.site in
+    let synced = c.sync_logs.new.site in
+    let same = same_makes_no_file (site.disk old) (site.disk listed) (c.list_logs.ensures.stays shown).same in
+    let sure_listed = (c.list_logs.ensures.stays shown).certain_stays sure in
+    let first = then_no_new site.clock site.left_since site.disk site.told site.may_be old listed synced same
+    (reads_no_new site.clock site.left_since site.disk site.told site.may_be old listed (λ other. g.met.S.Site.only shown old other sure) (c.list_logs.ensures.cuts shown))
+    (c.sync_logs.ensures.no_new shown sure_listed) in
+    then_no_new site.clock site.left_since site.disk site.told site.may_be old synced c.replay_logs.new.site (then_makes_no_file (site.disk old) (site.disk listed) (site.disk synced) same (c.sync_logs.ensures.no_file shown)) first
+    (reads_no_new site.clock site.left_since site.disk site.told site.may_be synced c.replay_logs.new.site (λ other. g.met.S.Site.only shown synced other (c.sync_logs.ensures.certain shown sure_listed)) (c.replay_logs.ensures.cuts shown))

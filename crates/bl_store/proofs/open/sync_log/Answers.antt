@@ -3,6 +3,7 @@ use Rattle.bl_site.specs.Disk.{Name}
 use Rattle.bl_store.specs.Stored.{KeepsAllBut}
 use Rattle.bl_store.proofs.OtherLemmas.{log_alone, sync_alone, sync_makes_no_file}
 use Rattle.bl_site.proofs.Images.{sync_outcome}
+use Rattle.bl_store.proofs.BehindLemmas.{call_no_new, no_call_no_new}
 use Rattle.bl_store.proofs.CutLemmas.{SyncsOnce, once_found, once_left}
 use Rattle.bl_store.proofs.open.sync_log.Given as given
 use Rattle.bl_store.proofs.open.sync_log.Goals as goal
@@ -76,3 +77,25 @@ returns-in_err-sync-clause-no_file g c = λ shown. sync_makes_no_file c.as_str.r
 
 pub returns-clause-no_file : goal.returns-clause-no_file
 returns-clause-no_file g c = λ shown. sync_makes_no_file c.as_str.result.now _ _ (done g c shown).outcome
+
+pub returns-in_err-sync-clause-no_new : goal.returns-in_err-sync-clause-no_new
+returns-in_err-sync-clause-no_new g c = λ shown sure.
+    let site = g.S.Site in
+    let old = c.args.site.now in
+    call_no_new site.clock site.left_since site.disk site.told site.may_be old c.sync.new.self (sync_makes_no_file c.as_str.result.now _ _ (failed g c shown).outcome)
+    (no_call_no_new site.clock site.left_since site.disk site.told site.may_be old (λ other. g.met.S.Site.only shown old other sure) (g.met.S.Site.only_now shown old)) (c.sync.ensures.time shown)
+    (λ other. g.met.S.Site.only shown c.sync.new.self other (c.sync.ensures.certain shown sure))
+
+pub returns-clause-no_new : goal.returns-clause-no_new
+returns-clause-no_new g c = λ shown sure.
+    let site = g.S.Site in
+    let old = c.args.site.now in
+    call_no_new site.clock site.left_since site.disk site.told site.may_be old c.sync.new.self (sync_makes_no_file c.as_str.result.now _ _ (done g c shown).outcome)
+    (no_call_no_new site.clock site.left_since site.disk site.told site.may_be old (λ other. g.met.S.Site.only shown old other sure) (g.met.S.Site.only_now shown old)) (c.sync.ensures.time shown)
+    (λ other. g.met.S.Site.only shown c.sync.new.self other (c.sync.ensures.certain shown sure))
+
+pub returns-in_err-name-clause-no_new : goal.returns-in_err-name-clause-no_new
+returns-in_err-name-clause-no_new g c = λ shown sure.
+    let site = g.S.Site in
+    let old = c.args.site.now in
+    no_call_no_new site.clock site.left_since site.disk site.told site.may_be old (λ other. g.met.S.Site.only shown old other sure) (g.met.S.Site.only_now shown old)

@@ -4,6 +4,7 @@ use Rattle.bl_site.specs.Disk.{Folder, MayLeave}
 use Rattle.bl_wal.specs.LogFile.{log_name}
 use Rattle.bl_store.proofs.FolderLemmas.{sync_keeps, sync_syncs, reads_there, at_place, all_synced}
 use Rattle.bl_store.proofs.CutLemmas.{no_call, all_found, then_left, then_found, sync_reads}
+use Rattle.bl_store.proofs.BehindLemmas.{no_call_no_new, then_no_new}
 use Rattle.bl_store.proofs.OtherLemmas.{others_then, then_makes_no_file}
 use Rattle.bl_store.proofs.open.sync_logs.Goals as goal
 
@@ -28,6 +29,10 @@ loop-number-preserved g c =
           ]);
       others = λ shown. others_then (g.S.Site.disk c.args.site.now) (g.S.Site.disk c.loop-number.site) (g.S.Site.disk c.sync_log.new.site) (i.others shown) (c.sync_log.ensures.others shown);
       no_file = λ shown. then_makes_no_file (g.S.Site.disk c.args.site.now) (g.S.Site.disk c.loop-number.site) (g.S.Site.disk c.sync_log.new.site) (i.no_file shown) (c.sync_log.ensures.no_file shown);
+      no_new = λ shown sure.
+          let site = g.S.Site in
+          then_no_new site.clock site.left_since site.disk site.told site.may_be c.args.site.now c.loop-number.site c.sync_log.new.site (i.no_file shown) (i.no_new shown sure)
+          (c.sync_log.ensures.no_new shown (i.certain shown sure));
       certain = λ shown sure. c.sync_log.ensures.certain shown (i.certain shown sure);
       before = λ shown.
           let site = g.S.Site in
@@ -78,6 +83,7 @@ loop-number-init g c =
       synced = λ shown k lt. absurd (omega (arith, lt));
       others = λ shown name ne. refl;
       no_file = λ shown name some. some;
+      no_new = λ shown sure. no_call_no_new site.clock site.left_since site.disk site.told site.may_be old (λ other. g.met.S.Site.only shown old other sure) (g.met.S.Site.only_now shown old);
       certain = λ shown sure. sure;
       before = λ shown. all_found site.clock site.left_since site.told site.may_be old old (no_call site.clock site.left_since site.told site.may_be old (g.met.S.Site.only_now shown old));
       cuts = λ shown reads. (reads, no_call site.clock site.left_since site.told site.may_be old (g.met.S.Site.only_now shown old));
@@ -89,3 +95,10 @@ loop-number-init g c =
 pub returns-in_err-sync_log-clause-no_file : goal.returns-in_err-sync_log-clause-no_file
 returns-in_err-sync_log-clause-no_file g c = λ shown.
     then_makes_no_file (g.S.Site.disk c.args.site.now) (g.S.Site.disk c.loop-number.site) (g.S.Site.disk c.sync_log.new.site) (c.loop-number.invariant.no_file shown) (c.sync_log.ensures.no_file shown)
+
+pub returns-in_err-sync_log-clause-no_new : goal.returns-in_err-sync_log-clause-no_new
+returns-in_err-sync_log-clause-no_new g c = λ shown sure.
+    let site = g.S.Site in
+    let i = c.loop-number.invariant in
+    then_no_new site.clock site.left_since site.disk site.told site.may_be c.args.site.now c.loop-number.site c.sync_log.new.site (i.no_file shown) (i.no_new shown sure)
+    (c.sync_log.ensures.no_new shown (i.certain shown sure))

@@ -3,10 +3,11 @@ use Rattle.std.proofs.lemmas.Result.{err_from_is_err_and}
 use Rattle.bl_site.specs.Disk.{folder_of}
 use Rattle.bl_names.specs.Names.{IsNumber}
 use Rattle.bl_store.specs.declared.error.StoreErr.TheVariants.{Corrupt, Full}
-use Rattle.bl_wal.specs.LogFile.{log_name, new_log}
+use Rattle.bl_wal.specs.LogFile.{log_name}
 use Rattle.bl_store.specs.Stored.{Stored, map_in}
 use Rattle.bl_store.proofs.OpenLemmas.{none_left, next_is}
-use Rattle.bl_store.proofs.CarryLemmas.{WasRead, is_next, opens}
+use Rattle.bl_store.proofs.BehindLemmas.{made_behind, unmade_behind}
+use Rattle.bl_store.proofs.CarryLemmas.{WasRead, is_next, is_opened, opens}
 use Rattle.bl_store.proofs.BarrierLemmas.{read_before, made_before, read_stands, made_stands, stands_reads}
 use Rattle.bl_store.proofs.OtherLemmas.{all_same, create_alone, log_alone, others_then, no_file_no_next, same_makes_no_file, then_makes_no_file}
 use Rattle.bl_store.proofs.store.Store.open_site.Goals as goal
@@ -162,15 +163,48 @@ returns-in_err-wal-clause-made g c = λ shown next.
         | inr made ↦
             let read : WasRead folder mid (map_in m.map.entries) m.last m.greatest =
             record { only = found.only shown; same = found.same shown; bound = found.bound; all = found.replayed shown; synced = found.synced shown } in
-            let store : Stored = record { log = new_log number; last = m.last; now = map_in m.map.entries; broken = false } in
-            record {
-              store = store;
-              usable = refl;
-              opens = opens c.names_one.ensures folder mid new store m.greatest number read c.in_ok-number.ensures.next.0 c.in_ok-number.ensures.next.1 made refl;
-            }
+            is_opened c.names_one.ensures folder mid new (map_in m.map.entries) m.last m.greatest number read c.in_ok-number.ensures.next.0 c.in_ok-number.ensures.next.1 made
       ]
       | inr memory ↦ none (c.in_err-wal.ensures.memory shown (ap Err memory))
     ]
 
 pub returns-clause-made : goal.returns-clause-made
 returns-clause-made g c = λ shown next. record { store = _; usable = refl; opens = returns-clause-opened g c shown }
+
+pub returns-in_err-memory-clause-behind : goal.returns-in_err-memory-clause-behind
+returns-in_err-memory-clause-behind g c = λ shown sure.
+    let site = g.S.Site in
+    unmade_behind site.clock site.left_since site.disk site.told site.may_be c.args.site.now c.read_logs.new.site (c.read_logs.ensures.no_new shown sure)
+
+pub returns-in_err-number-clause-behind : goal.returns-in_err-number-clause-behind
+returns-in_err-number-clause-behind g c = λ shown sure.
+    let site = g.S.Site in
+    unmade_behind site.clock site.left_since site.disk site.told site.may_be c.args.site.now c.read_logs.new.site (c.read_logs.ensures.no_new shown sure)
+
+pub returns-in_err-wal-clause-behind : goal.returns-in_err-wal-clause-behind
+returns-in_err-wal-clause-behind g c = λ shown sure.
+    let site = g.S.Site in
+    let old = c.args.site.now in
+    let mid = c.read_logs.new.site in
+    let m = c.in_ok-memory.memory in
+    let found = c.in_ok-memory.ensures in
+    let number = c.in_ok-number.number in
+    let read : WasRead (folder_of (site.disk old)) (site.disk mid) (map_in m.map.entries) m.last m.greatest =
+    record { only = found.only shown; same = found.same shown; bound = found.bound; all = found.replayed shown; synced = found.synced shown } in
+    made_behind site.clock site.left_since site.disk site.told site.may_be number old mid c.create.new.site (c.read_logs.ensures.no_file shown) (c.read_logs.ensures.no_new shown sure) (c.create.ensures.time shown)
+    (λ other. g.met.S.Site.only shown mid other (c.read_logs.ensures.certain shown sure)) (c.read_logs.ensures.told shown)
+    (λ after made. is_opened c.names_one.ensures (folder_of (site.disk old)) (site.disk mid) after (map_in m.map.entries) m.last m.greatest number read c.in_ok-number.ensures.next.0 c.in_ok-number.ensures.next.1 made)
+
+pub returns-clause-behind : goal.returns-clause-behind
+returns-clause-behind g c = λ shown sure.
+    let site = g.S.Site in
+    let old = c.args.site.now in
+    let mid = c.read_logs.new.site in
+    let m = c.in_ok-memory.memory in
+    let found = c.in_ok-memory.ensures in
+    let number = c.in_ok-number.number in
+    let read : WasRead (folder_of (site.disk old)) (site.disk mid) (map_in m.map.entries) m.last m.greatest =
+    record { only = found.only shown; same = found.same shown; bound = found.bound; all = found.replayed shown; synced = found.synced shown } in
+    made_behind site.clock site.left_since site.disk site.told site.may_be number old mid c.create.new.site (c.read_logs.ensures.no_file shown) (c.read_logs.ensures.no_new shown sure) (c.create.ensures.time shown)
+    (λ other. g.met.S.Site.only shown mid other (c.read_logs.ensures.certain shown sure)) (c.read_logs.ensures.told shown)
+    (λ after made. is_opened c.names_one.ensures (folder_of (site.disk old)) (site.disk mid) after (map_in m.map.entries) m.last m.greatest number read c.in_ok-number.ensures.next.0 c.in_ok-number.ensures.next.1 made)

@@ -1,0 +1,67 @@
+-- What a cut finds of an opening's next log.
+use Rattle.std.proofs.Common.{◌≡◌, ℕ, List, ◌++◌, Option, None, Some, IsSome, refl, subst}
+use Rattle.std.specs.Option.{option_map}
+use Rattle.bl_site.specs.Disk.{File, Disk, Cut, IsCut, MayLeave, folder_of}
+use Rattle.bl_site.specs.Calls.{Creates, MayDuring, Elapses, LeavesOnly}
+use Rattle.bl_site.proofs.Moments.{started, joins, widened, certain_call, name_call, cut_of_only}
+use Rattle.bl_wal.specs.LogFile.{log_name}
+use Rattle.bl_store.specs.Cuts.{FindsNoNewFile, FindsOpened}
+use Rattle.bl_store.specs.Stored.{HasNextLog, IsOpened, MakesNoFile}
+use Rattle.bl_store.proofs.FolderLemmas.{there_reads}
+use Rattle.bl_store.proofs.OtherLemmas.{no_next}
+
+was_some : {A B : Type 0} (f : A → B) (o : Option A) → IsSome (option_map f o) → IsSome o
+was_some f None some = absurd (cc some)
+was_some f (Some a) some = refl
+
+-- the names of what was written are those of the disk
+pub no_new_in : (disk : Disk) (told : List ℕ) (c : Cut) → IsCut disk told c → FindsNoNewFile disk c
+no_new_in disk told c is name some =
+    let P : Option (List ℕ) → Type 0 = IsSome in
+    was_some (λ (file : File). file.front ++ file.handed) (disk name) (subst P (is.written_is name) some)
+
+-- a cut that finds no new file does not find the next log
+pub finds_no_next : (disk : Disk) (c : Cut) → FindsNoNewFile disk c → HasNextLog (folder_of disk) c.written → ⊥
+finds_no_next disk c none = no_next (folder_of disk) c.written (λ name some. there_reads (disk name) (none name some))
+
+module _ {D : Type 0} (clock : D → ℕ) (left_since : D → ℕ → Cut → Type 0) (disk : D → Disk) (told : D → List ℕ) (may_be : D → Disk → Type 0) where
+  -- no call was made
+  pub no_call_no_new : (old : D) → ((other : Disk) → may_be old other → other ≡ disk old) → ((c : Cut) → left_since old (clock old) c → MayLeave (may_be old) (told old) c)
+      → LeavesOnly clock left_since old old (FindsNoNewFile (disk old))
+  no_call_no_new old only now = started clock left_since old (FindsNoNewFile (disk old)) (λ c left. no_new_in (disk old) (told old) c (cut_of_only (may_be old) (disk old) (told old) c only (now c left)))
+
+  -- what reads alone
+  pub reads_no_new : (old new : D) → ((other : Disk) → may_be old other → other ≡ disk old) → LeavesOnly clock left_since old new (MayLeave (may_be old) (told old))
+      → LeavesOnly clock left_since old new (FindsNoNewFile (disk old))
+  reads_no_new old new only leaves = widened clock left_since old new _ _ (λ c m. no_new_in (disk old) (told old) c (cut_of_only (may_be old) (disk old) (told old) c only m)) leaves
+
+  -- a call that makes no file
+  pub call_no_new : (old new : D) → MakesNoFile (disk old) (disk new) → LeavesOnly clock left_since old old (FindsNoNewFile (disk old))
+      → Elapses (clock old) (clock new) (left_since old) (left_since new) (MayLeave (may_be new) (told new)) → ((other : Disk) → may_be new other → other ≡ disk new)
+      → LeavesOnly clock left_since old new (FindsNoNewFile (disk old))
+  call_no_new old new none before time only =
+      certain_call clock left_since disk told may_be old old new (FindsNoNewFile (disk old)) before time only (λ c is name some. none name (no_new_in (disk new) (told new) c is name some))
+
+  -- one run behind another
+  pub then_no_new : (old mid new : D) → MakesNoFile (disk old) (disk mid) → LeavesOnly clock left_since old mid (FindsNoNewFile (disk old))
+      → LeavesOnly clock left_since mid new (FindsNoNewFile (disk mid)) → LeavesOnly clock left_since old new (FindsNoNewFile (disk old))
+  then_no_new old mid new none first second =
+      let P : Cut → Type 0 = FindsNoNewFile (disk old) in
+      joins clock left_since old mid new P first (widened clock left_since mid new _ P (λ c h name some. none name (h name some)) second)
+
+  -- the next log is not made yet
+  pub unmade_behind : (old new : D) → LeavesOnly clock left_since old new (FindsNoNewFile (disk old))
+      → LeavesOnly clock left_since old new (λ c. HasNextLog (folder_of (disk old)) c.written → FindsOpened (folder_of (disk old)) (told old) c)
+  unmade_behind old new none = widened clock left_since old new _ _ (λ c h next. absurd (finds_no_next (disk old) c h next)) none
+
+  -- it is made: a cut meanwhile finds the disk without it, or as it is opened
+  pub made_behind : (number : ℕ) (old mid new : D) → MakesNoFile (disk old) (disk mid) → LeavesOnly clock left_since old mid (FindsNoNewFile (disk old))
+      → Elapses (clock mid) (clock new) (left_since mid) (left_since new) (MayLeave (MayDuring (Creates (log_name number)) (may_be mid)) (told mid))
+      → ((other : Disk) → may_be mid other → other ≡ disk mid) → told mid ≡ told old
+      → ((after : Disk) → Creates (log_name number) (disk mid) after → IsOpened (folder_of (disk old)) after)
+      → LeavesOnly clock left_since old new (λ c. HasNextLog (folder_of (disk old)) c.written → FindsOpened (folder_of (disk old)) (told old) c)
+  made_behind number old mid new none first time only same opens =
+      let P : Cut → Type 0 = λ c. HasNextLog (folder_of (disk old)) c.written → FindsOpened (folder_of (disk old)) (told old) c in
+      name_call clock left_since disk told may_be (Creates (log_name number)) old mid new P (unmade_behind old mid first) time only
+      (λ c is next. absurd (finds_no_next (disk old) c (λ name some. none name (no_new_in (disk mid) (told mid) c is name some)) next))
+      (λ after c made is next. record { disk = after; opened = opens after made; is_cut = (let Q : List ℕ → Type 0 = λ t. IsCut after t c in subst Q same is) })
