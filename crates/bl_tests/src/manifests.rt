@@ -50,9 +50,29 @@ fn edit_of(alloc: Global, bytes: &[u8]) -> Result<Edit, Fail>
     }
 }
 
-// The place at which a manifest is damaged.
-fn place_of(answer: Result<Restored, ManifestErr>) -> Option<u64> {
-    match answer {
+fn first_edit(alloc: Global) -> Result<Edit, Fail>
+    ensures { IfOk result IsEdit }
+{
+    edit_of(alloc, &FIRST)
+}
+
+fn flushed_edit(alloc: Global) -> Result<Edit, Fail>
+    ensures { IfOk result IsEdit }
+{
+    edit_of(alloc, &FLUSHED)
+}
+
+// What the manifest restores.
+fn restored(alloc: Global, site: &mut MemSite) -> Result<Restored, Fail> {
+    match read_all(alloc, site, 1) {
+        Ok(restored) => Ok(restored),
+        Err(error) => Err(failed(error)),
+    }
+}
+
+// The place at which the manifest is damaged.
+fn place_in(alloc: Global, site: &mut MemSite) -> Option<u64> {
+    match read_all(alloc, site, 1) {
         Err(ManifestErr::Corrupt(_, place)) => Some(place),
         Ok(_) => None,
         Err(ManifestErr::Disk) => None,
@@ -67,15 +87,49 @@ fn size_of(site: &MemSite, name: &str) -> Option<usize> {
     }
 }
 
+// A folder whose manifest begins with an edit.
+fn with_first(alloc: Global, first: &Edit) -> Result<MemSite, Fail>
+    requires { IsEdit first.now }
+{
+    let mut site = MemSite::start(alloc)?;
+    Manifest::create(alloc, &mut site, 1, first).map_err(failed)?;
+    Ok(site)
+}
+
+// A folder whose manifest has two edits.
+fn with_edits(alloc: Global, first: &Edit, second: &Edit) -> Result<MemSite, Fail>
+    requires first { IsEdit first.now }
+    requires second { IsEdit second.now }
+{
+    let mut site = MemSite::start(alloc)?;
+    let mut manifest = Manifest::create(alloc, &mut site, 1, first).map_err(failed)?;
+    manifest.append(alloc, &mut site, second).map_err(failed)?;
+    Ok(site)
+}
+
+// A folder in whose manifest an edit follows the first one.
+fn with_second(alloc: Global, bytes: &[u8]) -> Result<MemSite, Fail> {
+    let first = first_edit(alloc)?;
+    let second = edit_of(alloc, bytes)?;
+    with_edits(alloc, &first, &second)
+}
+
 #[test]
 fn the_first_manifest_of_a_fresh_folder(rt: HostRuntime) -> Result<(), Fail> {
+    let first = first_edit(rt.alloc())?;
     let mut site = MemSite::start(rt.alloc())?;
-    let first = edit_of(rt.alloc(), &FIRST)?;
     let manifest = Manifest::create(rt.alloc(), &mut site, 1, &first).map_err(failed)?;
     assert_eq!(rt; manifest.number(), 1);
     assert!(rt; !manifest.failed());
     assert_eq!(rt; size_of(&site, NAME), Some(67));
-    let restored = read_all(rt.alloc(), &mut site, 1).map_err(failed)?;
+    Ok(())
+}
+
+#[test]
+fn a_fresh_folder_is_restored(rt: HostRuntime) -> Result<(), Fail> {
+    let first = first_edit(rt.alloc())?;
+    let mut site = with_first(rt.alloc(), &first)?;
+    let restored = restored(rt.alloc(), &mut site)?;
     assert_eq!(rt; restored.standing.log_number, 2);
     assert_eq!(rt; restored.standing.next_file, 3);
     assert_eq!(rt; restored.standing.last_sequence, 0);
@@ -86,27 +140,32 @@ fn the_first_manifest_of_a_fresh_folder(rt: HostRuntime) -> Result<(), Fail> {
 
 #[test]
 fn an_edit_more_is_restored(rt: HostRuntime) -> Result<(), Fail> {
-    let mut site = MemSite::start(rt.alloc())?;
-    let first = edit_of(rt.alloc(), &FIRST)?;
-    let mut manifest = Manifest::create(rt.alloc(), &mut site, 1, &first).map_err(failed)?;
-    let flushed = edit_of(rt.alloc(), &FLUSHED)?;
-    manifest
-        .append(rt.alloc(), &mut site, &flushed)
-        .map_err(failed)?;
+    let mut site = with_second(rt.alloc(), &FLUSHED)?;
     assert_eq!(rt; size_of(&site, NAME), Some(67 + 7 + 44));
-    let restored = read_all(rt.alloc(), &mut site, 1).map_err(failed)?;
+    let restored = restored(rt.alloc(), &mut site)?;
     assert_eq!(rt; restored.standing.log_number, 3);
     assert_eq!(rt; restored.standing.next_file, 6);
     assert_eq!(rt; restored.standing.last_sequence, 1);
     assert_eq!(rt; restored.standing.options.level0_trigger, 4);
     assert_eq!(rt; restored.version.tables(0).len(), 1);
     assert_eq!(rt; restored.version.blobs().len(), 1);
+    Ok(())
+}
+
+// The last sequence that a cut leaves.
+fn last_of_cut(alloc: Global, at: u64, keep: u64) -> Result<u64, Fail> {
+    let site = with_second(alloc, &FLUSHED)?;
+    let mut cut = site.cut(at, keep, None)?;
+    let left = restored(alloc, &mut cut)?;
+    Ok(left.standing.last_sequence)
+}
+
+#[test]
+fn cuts_of_an_edit_more(rt: HostRuntime) -> Result<(), Fail> {
     // Cuts during the second append, before its sync, and behind it.
     for (at, keep, last) in [(4, 50, 0), (4, 51, 1), (5, 0, 1)] {
-        let mut cut = site.cut(at, keep, None)?;
-        let left = read_all(rt.alloc(), &mut cut, 1).map_err(failed)?;
         assert_eq!(rt;
-            left.standing.last_sequence,
+            last_of_cut(rt.alloc(), at, keep)?,
             last,
             "call {at}, {keep} bytes"
         );
@@ -116,12 +175,8 @@ fn an_edit_more_is_restored(rt: HostRuntime) -> Result<(), Fail> {
 
 // The place of the fault where this edit follows the first one.
 fn place_behind(alloc: Global, bytes: &[u8]) -> Result<Option<u64>, Fail> {
-    let mut site = MemSite::start(alloc)?;
-    let first = edit_of(alloc, &FIRST)?;
-    let mut manifest = Manifest::create(alloc, &mut site, 1, &first).map_err(failed)?;
-    let edit = edit_of(alloc, bytes)?;
-    manifest.append(alloc, &mut site, &edit).map_err(failed)?;
-    Ok(place_of(read_all(alloc, &mut site, 1)))
+    let mut site = with_second(alloc, bytes)?;
+    Ok(place_in(alloc, &mut site))
 }
 
 #[test]
@@ -136,40 +191,64 @@ fn faults_behind_the_first_edit(rt: HostRuntime) -> Result<(), Fail> {
 }
 
 #[test]
-fn other_faults(rt: HostRuntime) -> Result<(), Fail> {
+fn faults_of_a_first_edit(rt: HostRuntime) -> Result<(), Fail> {
     let mut site = MemSite::start(rt.alloc())?;
-    assert_eq!(rt; place_of(read_all(rt.alloc(), &mut site, 1)), Some(0));
+    assert_eq!(rt; place_in(rt.alloc(), &mut site), Some(0));
     // Fields that are not known.
-    let flushed = edit_of(rt.alloc(), &FLUSHED)?;
-    Manifest::create(rt.alloc(), &mut site, 1, &flushed).map_err(failed)?;
-    assert_eq!(rt; place_of(read_all(rt.alloc(), &mut site, 1)), Some(7 + 44));
+    let flushed = flushed_edit(rt.alloc())?;
+    let mut site = with_first(rt.alloc(), &flushed)?;
+    assert_eq!(rt; place_in(rt.alloc(), &mut site), Some(7 + 44));
+    Ok(())
+}
+
+// The place of the fault of a manifest of these bytes.
+fn place_of(alloc: Global, bytes: &[u8]) -> Result<Option<u64>, Fail> {
+    let mut site = MemSite::start(alloc)?;
+    site.put_file(NAME, bytes)?;
+    Ok(place_in(alloc, &mut site))
+}
+
+#[test]
+fn faults_of_a_record(rt: HostRuntime) -> Result<(), Fail> {
     // A record that is no edit, and one that is cut.
     let no_edit = [0x3D, 0x99, 0xF6, 0x99, 1, 0, 1, 5];
-    site.put_file(NAME, &no_edit)?;
-    assert_eq!(rt; place_of(read_all(rt.alloc(), &mut site, 1)), Some(8));
-    site.put_file(NAME, &no_edit[..7])?;
-    assert_eq!(rt; place_of(read_all(rt.alloc(), &mut site, 1)), Some(0));
+    assert_eq!(rt; place_of(rt.alloc(), &no_edit)?, Some(8));
+    assert_eq!(rt; place_of(rt.alloc(), &no_edit[..7])?, Some(0));
     Ok(())
+}
+
+// Whether the first of two edits is not written where a call fails. Else the second one is not, and the manifest has failed.
+fn first_of_two_is_lost(alloc: Global, call: u64, first: &Edit, second: &Edit) -> Result<bool, Fail>
+    requires first { IsEdit first.now }
+    requires second { IsEdit second.now }
+{
+    let mut site = MemSite::with_failures(alloc, &[call])?;
+    let mut manifest = match Manifest::create(alloc, &mut site, 1, first) {
+        Err(ManifestErr::Disk) => return Ok(true),
+        Err(error) => return Err(failed(error)),
+        Ok(manifest) => manifest,
+    };
+    match manifest.append(alloc, &mut site, second) {
+        Err(ManifestErr::Disk) => {}
+        Err(error) => return Err(failed(error)),
+        Ok(()) => return Err(Fail::from("no failure")),
+    }
+    if !manifest.failed() {
+        return Err(Fail::from("not failed"));
+    }
+    Ok(false)
+}
+
+fn first_is_lost(alloc: Global, call: u64) -> Result<bool, Fail> {
+    let first = first_edit(alloc)?;
+    let flushed = flushed_edit(alloc)?;
+    first_of_two_is_lost(alloc, call, &first, &flushed)
 }
 
 #[test]
 fn each_call_that_fails(rt: HostRuntime) -> Result<(), Fail> {
-    let first = edit_of(rt.alloc(), &FIRST)?;
-    let flushed = edit_of(rt.alloc(), &FLUSHED)?;
     for call in 1..6 {
-        let mut site = MemSite::with_failures(rt.alloc(), &[call])?;
-        match Manifest::create(rt.alloc(), &mut site, 1, &first) {
-            Err(ManifestErr::Disk) => assert!(rt; call < 4, "call {call}"),
-            Err(error) => return Err(failed(error)),
-            Ok(mut manifest) => {
-                match manifest.append(rt.alloc(), &mut site, &flushed) {
-                    Err(ManifestErr::Disk) => assert!(rt; call >= 4, "call {call}"),
-                    Err(error) => return Err(failed(error)),
-                    Ok(()) => return Err(Fail::from("no failure")),
-                }
-                assert!(rt; manifest.failed());
-            }
-        }
+        assert_eq!(rt; first_is_lost(rt.alloc(), call)?, call < 4, "call {call}");
     }
     Ok(())
 }

@@ -68,6 +68,13 @@ fn records_stand_in_two_pieces(rt: HostRuntime) -> Result<(), Fail> {
     assert_eq!(rt; reader.place(), 4 * 7 + 100_000 + 7 + 3);
     assert_eq!(rt; end_of(reader.next(&mut site)), Some(100_038));
     assert_eq!(rt; end_of(reader.next(&mut site)), Some(100_038));
+    Ok(())
+}
+
+#[test]
+fn a_cut_record_is_not_read(rt: HostRuntime) -> Result<(), Fail> {
+    let mut site = MemSite::start(rt.alloc())?;
+    let log = log_of(rt.alloc())?;
     // The last byte is missing.
     site.put_file(NAME, &log[..log.len().saturating_sub(1)])?;
     let mut reader = opened(rt.alloc())?;
