@@ -1,0 +1,6 @@
+mod Cuts
+mod LawLemmas
+mod Orders
+mod PlaceLemmas
+mod PutLemmas
+mod RowLemmas

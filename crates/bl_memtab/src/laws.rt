@@ -1,0 +1,25 @@
+//! What holds of memory tables and of the definitions: a caller that needs one of these calls it.
+
+ghost use Rattle.bl_entry.specs.Entries.{IsAscending};
+ghost use Rattle.bl_memtab.specs.Laws.{LatestIsGreatest, LatestIsTheValue};
+
+use crate::table::MemTable;
+
+/// The keys of a memory table ascend strictly.
+pub fn ascends(table: &MemTable)
+    ensures { IsAscending table.now }
+{
+    table.show_order();
+}
+
+/// In an ascending list the latest entry of a user key up to a sequence has the greatest sequence of all
+/// such, and of two with this sequence it is the first in key order.
+pub fn latest_is_greatest()
+    ensures { LatestIsGreatest }
+{}
+
+/// In an ascending list of puts and deletions the latest entry of a user key up to a sequence tells the
+/// key's value at this sequence.
+pub fn latest_is_the_value()
+    ensures { LatestIsTheValue }
+{}
