@@ -4,3 +4,4 @@ mod Orders
 mod PlaceLemmas
 mod PutLemmas
 mod RowLemmas
+mod TestLemmas
