@@ -1,12 +1,12 @@
 -- What the latest entry of a user key is, and what it tells.
-use Rattle.std.proofs.Common.{◌≡◌, ℕ, suc, ◌+◌, ◌*◌, ◌<◌, ◌≤◌, Bool, true, false, cond, nat_lt, List, [], ◌∷◌, length, map, refl, sym, ◌∙◌, ap, subst, arith}
-use Rattle.std.specs.Prelude.{find, filter, ◌&&◌, nat_le, Contains, Option, Some, None, option_and_then}
+use Rattle.std.proofs.Common.{◌≡◌, ℕ, suc, ◌+◌, ◌*◌, ◌<◌, ◌≤◌, Bool, true, false, cond, nat_lt, List, [], ◌∷◌, ◌++◌, length, map, refl, sym, ◌∙◌, ap, subst, arith}
+use Rattle.std.specs.Prelude.{find, filter, ◌&&◌, nat_le, Contains, slice_get, Option, Some, None, option_and_then}
 use Rattle.std.specs.Cmp.{IsTotalOrder, tied_back, tied_itself}
 use Rattle.std.specs.Cmp.Lexicographic.{nat_list_cmp_total}
 use Rattle.std.specs.List.{AllByRecursion}
 use Rattle.std.specs.List.Sorted.{IsStrictlySortedBy}
 use Rattle.std.specs.Option.{option_map}
-use Rattle.std.specs.Ordering.{nat_cmp, is_lt, is_eq, ordering_reverse, ordering_then}
+use Rattle.std.specs.Ordering.{nat_cmp, is_gt, is_lt, is_eq, ordering_reverse, ordering_then}
 use Rattle.std.specs.declared.cmp.Ordering.{Ordering}
 use Rattle.std.specs.declared.cmp.Ordering.TheVariants.{Less, Equal, Greater}
 use Rattle.std.proofs.lemmas.Bool.{false≢true}
@@ -15,8 +15,8 @@ use Rattle.bl_entry.specs.declared.key.Entry.{Entry}
 use Rattle.bl_entry.specs.Entries.{IsAscending, stands_before}
 use Rattle.bl_entry.specs.Keys.{Key, key_cmp, key_number, kind_number}
 use Rattle.bl_entry.specs.Revisions.{Revision, later, newest, seen, value_at}
-use Rattle.bl_memtab.specs.Laws.{IsLatest, LatestIsGreatest, LatestIsTheValue, revision_of}
-use Rattle.bl_memtab.specs.Tables.{is_seen, latest}
+use Rattle.bl_memtab.specs.Laws.{AfterIsNext, IsLatest, LatestIsGreatest, LatestIsTheValue, revision_of}
+use Rattle.bl_memtab.specs.Tables.{after, is_reached, is_seen, latest}
 use Rattle.bl_memtab.proofs.Cuts.{all_at, by_test, find_holds, find_passes, find_there}
 use Rattle.bl_memtab.proofs.Orders.{key_total}
 use Rattle.bl_memtab.proofs.PlaceLemmas.{AreBehind, eq_of, kind_small, nat_cmp_lt}
@@ -116,3 +116,22 @@ put_of_found (Some e) = refl
 
 pub latest_is_the_value : LatestIsTheValue
 latest_is_the_value es key seq up = ap (option_and_then (λ r. r.put)) (newest_is key seq es up) ∙ put_of_found (latest key seq es)
+
+-- ---- the entry behind another
+
+behind_at : (k : Key) (front back : List Entry) (e : Entry) → AreBehind k (front ++ e ∷ back) → key_cmp k e.key ≡ Less
+behind_at k [] back e h = h.0
+behind_at k (x ∷ front) back e h = behind_at k front back e h.1
+
+skips : (from : Key) (x : Entry) (es : List Entry) → is_reached from true x ≡ false → after from true (x ∷ es) ≡ after from true es
+skips from x es h = ap (λ b. cond b (Some x) (after from true es)) h
+
+first_behind : (e : Entry) (back : List Entry) → AreBehind e.key back → after e.key true back ≡ slice_get back 0
+first_behind e [] h = refl
+first_behind e (b ∷ back) h =
+    ap (λ t. cond t (Some b) (after e.key true back)) (ap is_gt (key_total.antisymm b.key e.key ∙ ap ordering_reverse h.0))
+
+pub after_is_next : AfterIsNext
+unfolding IsStrictlySortedBy
+after_is_next [] back e up = skips e.key e back (ap is_gt (tied_itself key_total e.key)) ∙ first_behind e back up.0
+after_is_next (x ∷ front) back e up = skips e.key x (front ++ e ∷ back) (ap is_gt (behind_at x.key front back e up.0)) ∙ after_is_next front back e up.1

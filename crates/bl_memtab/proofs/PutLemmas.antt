@@ -1,15 +1,15 @@
 -- What the list is after a row was changed.
 use Rattle.std.proofs.Common.{◌≡◌, ℕ, zero, suc, ◌+◌, ◌-◌, ◌/◌, ◌<◌, ◌≤◌, Bool, false, List, [], ◌∷◌, ◌++◌, length, take, drop, get_or, sym, ◌∙◌, ap, subst, arith, length-append, length-drop, length-take}
 use Rattle.std.specs.Prelude.{slice_set, sum_by}
-use Rattle.std.specs.List.{prefix_len, insert}
+use Rattle.std.specs.List.{AllByRecursion, prefix_len, insert}
 use Rattle.std.specs.List.Sorted.{IsPermutation}
 use Rattle.std.proofs.lemmas.List.{take-append-drop}
 use Rattle.std.proofs.lemmas.List.Sorted.{IsPermutation-insert, length_permutation, sum_by_pushed}
 use Rattle.bl_entry.specs.declared.key.Entry.{Entry}
 use Rattle.bl_entry.specs.Entries.{IsAscending}
-use Rattle.bl_entry.specs.Keys.{KeysDiffer, key_number}
+use Rattle.bl_entry.specs.Keys.{IsKey, Key, KeysDiffer, key_number}
 use Rattle.bl_memtab.specs.Rows.{AreRows, Row, before, entries_in, home, row_at}
-use Rattle.bl_memtab.specs.Tables.{IsCounted, IsFree, size, with_entry}
+use Rattle.bl_memtab.specs.Tables.{IsFree, IsTable, size, with_entry}
 use Rattle.bl_memtab.proofs.Orders.{before_cut}
 use Rattle.bl_memtab.proofs.PlaceLemmas.{sorted_insert, with_entry_is}
 use Rattle.bl_memtab.proofs.RowLemmas.{parted_filled, parted_same, put_rows, row_filled, set_filled, set_same, with_two}
@@ -62,15 +62,25 @@ part_done rows at half new front back are lt some less f b =
       };
     }
 
+all_insert : {A : Type 0} (P : A → Type 0) (xs : List A) (n : ℕ) (x : A) → AllByRecursion P xs → P x → AllByRecursion P (insert xs n x)
+all_insert P [] zero x h k = (k, tt)
+all_insert P [] (suc n) x h k = (k, tt)
+all_insert P (y ∷ xs) zero x h k = (k, h)
+all_insert P (y ∷ xs) (suc n) x h k = (h.0, all_insert P xs n x h.1 k)
+
 -- an entry more is counted
-pub counted_more : KeysDiffer → (e : Entry) (es : List Entry) (count bytes : ℕ) → IsAscending es → IsFree e.key es → IsCounted es count bytes
-    → IsCounted (with_entry e es) (count + 1) (bytes + size e)
-counted_more differ e es count bytes up free h =
+pub counted_more : KeysDiffer → (e : Entry) (es : List Entry) (count bytes : ℕ) → IsAscending es → IsFree e.key es → IsKey e.key → IsTable es count bytes
+    → IsTable (with_entry e es) (count + 1) (bytes + size e)
+counted_more differ e es count bytes up free key h =
     let n : ℕ = prefix_len (before e.key) es in
     let moved : IsPermutation (e ∷ es) (insert es n e) = IsPermutation-insert es n e in
     let count_is : length (insert es n e) ≡ suc (length es) = length_permutation (e ∷ es) (insert es n e) moved in
     let bytes_is : sum_by size (insert es n e) ≡ size e + sum_by size es = sum_by_pushed size e es (insert es n e) moved in
     let was : count ≡ length es = h.count_is in
     let had : bytes ≡ sum_by size es = h.bytes_is in
-    let more : IsCounted (insert es n e) (count + 1) (bytes + size e) = record { count_is = omega arith; bytes_is = omega arith } in
-    subst (λ xs. IsCounted xs (count + 1) (bytes + size e)) (sym (with_entry_is differ e es up free)) more
+    let more : IsTable (insert es n e) (count + 1) (bytes + size e) = record {
+      keys = all_insert (λ x. IsKey x.key) es n e h.keys key;
+      count_is = omega arith;
+      bytes_is = omega arith;
+    } in
+    subst (λ xs. IsTable xs (count + 1) (bytes + size e)) (sym (with_entry_is differ e es up free)) more

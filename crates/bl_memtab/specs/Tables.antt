@@ -3,7 +3,7 @@ use Rattle.std.specs.Prelude.{◌≡◌, ◌≢◌, ℕ, ◌+◌, nat_le, ◌&&�
 use Rattle.std.specs.List.{AllByRecursion}
 use Rattle.std.specs.Ordering.{is_gt, is_ge}
 use Rattle.bl_code.specs.Order.{same_bytes}
-use Rattle.bl_entry.specs.Keys.{Key, key_cmp}
+use Rattle.bl_entry.specs.Keys.{IsKey, Key, key_cmp}
 use Rattle.bl_entry.specs.Entries.{stands_before}
 use Rattle.bl_entry.specs.declared.key.Entry.{Entry}
 
@@ -35,7 +35,8 @@ after from strict es = find (is_reached from strict) es
 abbrev pub size : Entry → ℕ
 size e = length e.key.user + 8 + length e.value
 
--- the entries are so many, and count for so many bytes
-pub record IsCounted (es : List Entry) (count bytes : ℕ) : Type 0 where
+-- the entries have the keys that there are, are so many, and count for so many bytes
+pub record IsTable (es : List Entry) (count bytes : ℕ) : Type 0 where
+  pub keys : AllByRecursion (λ e. IsKey e.key) es
   pub count_is : count ≡ length es
   pub bytes_is : bytes ≡ sum_by size es

@@ -1,13 +1,16 @@
 //! What holds of memory tables and of the definitions: a caller that needs one of these calls it.
 
+ghost use Rattle.std.specs.List.{AllByRecursion};
 ghost use Rattle.bl_entry.specs.Entries.{IsAscending};
-ghost use Rattle.bl_memtab.specs.Laws.{LatestIsGreatest, LatestIsTheValue};
+ghost use Rattle.bl_entry.specs.Keys.{IsKey};
+ghost use Rattle.bl_memtab.specs.Laws.{AfterIsNext, LatestIsGreatest, LatestIsTheValue};
 
 use crate::table::MemTable;
 
-/// The keys of a memory table ascend strictly.
+/// The keys of a memory table have the lengths and sequences that keys have, and ascend strictly.
 pub fn ascends(table: &MemTable)
-    ensures { IsAscending table.now }
+    ensures ascending { IsAscending table.now }
+    ensures keys { AllByRecursion (λ e. IsKey e.key) table.now }
 {
     table.show_order();
 }
@@ -22,4 +25,9 @@ pub fn latest_is_greatest()
 /// key's value at this sequence.
 pub fn latest_is_the_value()
     ensures { LatestIsTheValue }
+{}
+
+/// In an ascending list the first entry behind the key of one of them is the next one.
+pub fn after_is_next()
+    ensures { AfterIsNext }
 {}

@@ -7,5 +7,5 @@ mod table;
 #[cfg(test)]
 mod tests;
 
-pub use laws::{ascends, latest_is_greatest, latest_is_the_value};
+pub use laws::{after_is_next, ascends, latest_is_greatest, latest_is_the_value};
 pub use table::MemTable;

@@ -1,8 +1,10 @@
 //! The memory table.
 
 ghost use Rattle.std.specs.Prelude.{◌≡◌, ◌+◌, ◌^◌, ◌≤◌, [], length, sum_by, MatchOption, OnOk, OnErr};
+ghost use Rattle.std.specs.List.{AllByRecursion};
 ghost use Rattle.std.specs.Option.{option_copied};
 ghost use Rattle.bl_entry.specs.Entries.{IsAscending};
+ghost use Rattle.bl_entry.specs.Keys.{IsKey};
 ghost use Rattle.bl_memtab.specs.Tables.{IsFree, with_entry, latest, after, size};
 
 use crate::rows::Rows;
@@ -28,11 +30,11 @@ impl Model for MemTable {
 
     ghost Value = { List Entry };
 
-    ghost use Rattle.bl_memtab.specs.Tables.{IsCounted};
+    ghost use Rattle.bl_memtab.specs.Tables.{IsTable};
 
     ghost view = { λ t. t.rows };
 
-    ghost invariant = { λ t. IsCounted t.rows t.count t.bytes };
+    ghost invariant = { λ t. IsTable t.rows t.count t.bytes };
 }
 
 impl MemTable {
@@ -99,17 +101,19 @@ impl MemTable {
         self.count
     }
 
-    // The keys ascend.
+    // The keys are keys, and ascend.
     pub(crate) fn show_order(&self)
-        ensures { IsAscending self.now }
+        ensures ascending { IsAscending self.now }
+        ensures keys { AllByRecursion (λ e. IsKey e.key) self.now }
     {
         self.rows.show_order();
     }
 }
 
-// So many bytes and those of an entry; None where that is 2^64 or more.
+// So many bytes and those of an entry; None where that is 2^64 or more. The entry's key is one.
 fn with_size(bytes: u64, entry: &Entry) -> Option<u64>
-    ensures { MatchOption result (2 ^ 64 ≤ bytes + size entry.now) (λ total. total ≡ bytes + size entry.now) }
+    ensures key { IsKey entry.now.key }
+    ensures total { MatchOption result (2 ^ 64 ≤ bytes + size entry.now) (λ total. total ≡ bytes + size entry.now) }
 {
     let user = entry.key.user.as_slice().len() as u64;
     let value = entry.value.as_slice().len() as u64;
