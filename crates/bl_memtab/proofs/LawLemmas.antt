@@ -1,21 +1,20 @@
 -- What the latest entry of a user key is, and what it tells.
-use Rattle.std.proofs.Common.{◌≡◌, ℕ, suc, ◌+◌, ◌*◌, ◌<◌, ◌≤◌, Bool, true, false, cond, nat_lt, List, [], ◌∷◌, ◌++◌, length, map, refl, sym, ◌∙◌, ap, subst, arith}
-use Rattle.std.specs.Prelude.{find, filter, ◌&&◌, nat_le, Contains, slice_get, Option, Some, None, option_and_then}
-use Rattle.std.specs.Cmp.{IsTotalOrder, tied_back, tied_itself}
+use Rattle.std.proofs.Common.{◌≡◌, ℕ, ◌<◌, ◌≤◌, Bool, true, false, cond, nat_lt, List, [], ◌∷◌, ◌++◌, map, refl, sym, ◌∙◌, ap, subst, arith}
+use Rattle.std.specs.Prelude.{◌&&◌, nat_le, Contains, slice_get, Option, Some, None, option_and_then}
+use Rattle.std.specs.Cmp.{tied_back, tied_itself}
 use Rattle.std.specs.Cmp.Lexicographic.{nat_list_cmp_total}
 use Rattle.std.specs.List.{AllByRecursion}
 use Rattle.std.specs.List.Sorted.{IsStrictlySortedBy}
 use Rattle.std.specs.Option.{option_map}
-use Rattle.std.specs.Ordering.{nat_cmp, is_gt, is_lt, is_eq, ordering_reverse, ordering_then}
-use Rattle.std.specs.declared.cmp.Ordering.{Ordering}
-use Rattle.std.specs.declared.cmp.Ordering.TheVariants.{Less, Equal, Greater}
+use Rattle.std.specs.Ordering.{nat_cmp, is_gt, is_lt, ordering_reverse, ordering_then}
+use Rattle.std.specs.declared.cmp.Ordering.TheVariants.{Less, Equal}
 use Rattle.std.proofs.lemmas.Bool.{false≢true}
 use Rattle.bl_code.specs.Order.{bytes_cmp, same_bytes}
 use Rattle.bl_entry.specs.declared.key.Entry.{Entry}
 use Rattle.bl_entry.specs.Entries.{IsAscending, stands_before}
 use Rattle.bl_entry.specs.Keys.{Key, key_cmp, key_number, kind_number}
-use Rattle.bl_entry.specs.Revisions.{Revision, later, newest, seen, value_at}
-use Rattle.bl_memtab.specs.Laws.{AfterIsNext, IsLatest, LatestIsGreatest, LatestIsTheValue, revision_of}
+use Rattle.bl_entry.specs.Revisions.{later, newest, seen}
+use Rattle.bl_memtab.specs.Laws.{AfterIsNext, LatestIsGreatest, LatestIsTheValue, revision_of}
 use Rattle.bl_memtab.specs.Tables.{after, is_reached, is_seen, latest}
 use Rattle.bl_memtab.proofs.Cuts.{all_at, by_test, find_holds, find_passes, find_there}
 use Rattle.bl_memtab.proofs.Orders.{key_total}

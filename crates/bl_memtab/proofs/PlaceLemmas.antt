@@ -1,14 +1,14 @@
 -- An entry in its place, and the first entry from a place on.
-use Rattle.std.proofs.Common.{◌≡◌, ◌≢◌, ℕ, zero, suc, ◌+◌, ◌*◌, ◌<◌, ◌≤◌, Bool, true, false, cond, nat_lt, List, [], ◌∷◌, ◌++◌, length, take, drop, map, refl, sym, ◌∙◌, ap, subst, arith}
-use Rattle.std.specs.Prelude.{find, filter, not, ◌&&◌, nat_le, Option, Some, None, option_and_then, if◌then◌else◌}
-use Rattle.std.specs.Cmp.{IsTotalOrder, alike_right}
+use Rattle.std.proofs.Common.{◌≡◌, ◌≢◌, ℕ, zero, suc, ◌+◌, ◌*◌, ◌<◌, ◌≤◌, Bool, true, false, cond, nat_lt, List, [], ◌∷◌, ◌++◌, take, drop, map, refl, sym, ◌∙◌, ap, subst, arith}
+use Rattle.std.specs.Prelude.{find, filter, not, ◌&&◌, nat_le, Some, None, option_and_then}
+use Rattle.std.specs.Cmp.{alike_right}
 use Rattle.std.specs.Cmp.Lexicographic.{nat_list_cmp_total}
 use Rattle.std.specs.List.{AllByRecursion, prefix_len, insert}
 use Rattle.std.specs.List.Sorted.{IsStrictlySortedBy}
 use Rattle.std.specs.Ordering.{nat_cmp, is_lt, is_le, is_gt, is_ge, is_eq, ordering_reverse, ordering_then}
 use Rattle.std.specs.declared.cmp.Ordering.{Ordering}
 use Rattle.std.specs.declared.cmp.Ordering.TheVariants.{Less, Equal, Greater}
-use Rattle.std.proofs.lemmas.Bool.{false≢true, ltb-true, ltb-false, lt-ltb, le-leb}
+use Rattle.std.proofs.lemmas.Bool.{false≢true, ltb-true, ltb-false, le-leb}
 use Rattle.bl_code.specs.Order.{bytes_cmp, same_bytes}
 use Rattle.bl_entry.specs.declared.key.Entry.{Entry}
 use Rattle.bl_entry.specs.declared.key.Kind.{Kind}
@@ -40,7 +40,7 @@ with_entry_is differ entry es up free =
     let cut = before_cut entry.key.user (key_number entry.key) false es up in
     let front : filter (λ e. stands_before e entry) es ≡ take (prefix_len (before entry.key) es) es = filter_front (before entry.key) es cut in
     let back : filter (λ e. stands_before entry e) es ≡ drop (prefix_len (before entry.key) es) es
-        = filter_back (before entry.key) (λ e. stands_before entry e) es cut (each_apart differ entry es free) in
+    = filter_back (before entry.key) (λ e. stands_before entry e) es cut (each_apart differ entry es free) in
     λ i. front i ++ entry ∷ back i
 
 less_of : (o : Ordering) → is_lt o ≡ true → o ≡ Less

@@ -1,5 +1,5 @@
 -- What the list is after a row was changed.
-use Rattle.std.proofs.Common.{◌≡◌, ℕ, zero, suc, ◌+◌, ◌-◌, ◌/◌, ◌<◌, ◌≤◌, Bool, false, List, [], ◌∷◌, ◌++◌, length, take, drop, get_or, sym, ◌∙◌, ap, subst, arith, length-append, length-drop, length-take}
+use Rattle.std.proofs.Common.{◌≡◌, ℕ, zero, suc, ◌+◌, ◌-◌, ◌<◌, ◌≤◌, false, List, [], ◌∷◌, ◌++◌, length, take, drop, sym, ◌∙◌, ap, subst, arith, length-append, length-drop}
 use Rattle.std.specs.Prelude.{slice_set, sum_by}
 use Rattle.std.specs.List.{AllByRecursion, prefix_len, insert}
 use Rattle.std.specs.List.Sorted.{IsPermutation}
@@ -7,7 +7,7 @@ use Rattle.std.proofs.lemmas.List.{take-append-drop}
 use Rattle.std.proofs.lemmas.List.Sorted.{IsPermutation-insert, length_permutation, sum_by_pushed}
 use Rattle.bl_entry.specs.declared.key.Entry.{Entry}
 use Rattle.bl_entry.specs.Entries.{IsAscending}
-use Rattle.bl_entry.specs.Keys.{IsKey, Key, KeysDiffer, key_number}
+use Rattle.bl_entry.specs.Keys.{IsKey, KeysDiffer, key_number}
 use Rattle.bl_memtab.specs.Rows.{AreRows, Row, before, entries_in, home, row_at}
 use Rattle.bl_memtab.specs.Tables.{IsFree, IsTable, size, with_entry}
 use Rattle.bl_memtab.proofs.Orders.{before_cut}

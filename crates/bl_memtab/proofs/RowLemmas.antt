@@ -1,5 +1,5 @@
 -- Entries in rows, read and changed as one list.
-use Rattle.std.proofs.Common.{◌≡◌, ℕ, zero, suc, ◌+◌, ◌-◌, ◌<◌, ◌≤◌, Bool, true, false, cond, List, [], ◌∷◌, ◌++◌, length, take, drop, get_or, map, refl, sym, ◌∙◌, ap, subst, arith, append_assoc}
+use Rattle.std.proofs.Common.{◌≡◌, ℕ, zero, suc, ◌+◌, ◌-◌, ◌<◌, ◌≤◌, Bool, true, false, cond, List, [], ◌∷◌, ◌++◌, length, get_or, map, refl, sym, ◌∙◌, ap, subst, arith, append_assoc}
 use Rattle.std.specs.Prelude.{find, not, min, slice_get, slice_set, Option, Some, None, MatchOption, OnErr, Result, Ok, Err, option_and_then}
 use Rattle.std.specs.Borrow.{Bor}
 use Rattle.std.specs.List.{AllByRecursion, HoldsAt, prefix_len, insert}
@@ -13,7 +13,7 @@ use Rattle.bl_entry.specs.declared.key.Entry.{Entry}
 use Rattle.bl_entry.specs.Entries.{IsAscending}
 use Rattle.bl_entry.specs.Keys.{key_cmp}
 use Rattle.bl_memtab.specs.Rows.{AreRows, Row, entries_in, ends, passes, row_at}
-use Rattle.bl_memtab.proofs.Cuts.{IsCut, all_append, all_back, all_front, all_pass, by_test, cut_back, cut_front, first_failing, prefix_all}
+use Rattle.bl_memtab.proofs.Cuts.{IsCut, all_back, all_front, all_pass, by_test, cut_back, cut_front, first_failing, prefix_all}
 
 -- ---- the last entry of a row
 

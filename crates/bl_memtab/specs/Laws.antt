@@ -1,5 +1,5 @@
 -- What the latest entry of a user key is, and what it tells.
-use Rattle.std.specs.Prelude.{◌≡◌, ℕ, ◌≤◌, true, false, IsTrue, List, ◌∷◌, ◌++◌, map, Contains, slice_get, Option, None, Some, option_and_then, if◌then◌else◌}
+use Rattle.std.specs.Prelude.{◌≡◌, ℕ, ◌≤◌, true, false, IsTrue, List, ◌∷◌, ◌++◌, map, Contains, slice_get, None, Some, option_and_then, if◌then◌else◌}
 use Rattle.bl_entry.specs.Entries.{IsAscending, is_deletion, stands_before}
 use Rattle.bl_entry.specs.Revisions.{Revision, value_at}
 use Rattle.bl_entry.specs.declared.key.Entry.{Entry}

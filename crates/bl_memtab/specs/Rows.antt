@@ -1,5 +1,5 @@
 -- How the list of a memory table stands in rows.
-use Rattle.std.specs.Prelude.{◌≡◌, ℕ, zero, suc, ◌-◌, ◌<◌, Bool, true, false, List, [], ◌∷◌, length, flat_map, min, slice_get, Option, None, Some, Vec, if◌then◌else◌}
+use Rattle.std.specs.Prelude.{ℕ, zero, suc, ◌-◌, ◌<◌, Bool, true, false, List, [], ◌∷◌, length, flat_map, min, slice_get, Option, None, Some, Vec, if◌then◌else◌}
 use Rattle.std.specs.declared.alloc.Global.{Global}
 use Rattle.std.specs.List.{AllByRecursion, prefix_len}
 use Rattle.std.specs.Ordering.{is_lt, is_le, nat_cmp, ordering_then}
@@ -24,7 +24,7 @@ pub record AreRows (rows : List Row) : Type 0 where
 abbrev pub is_before : List ℕ → ℕ → Bool → Entry → Bool
 is_before user number strict e =
     if strict then is_le (ordering_then (bytes_cmp e.key.user user) (nat_cmp number (key_number e.key)))
-        else is_lt (ordering_then (bytes_cmp e.key.user user) (nat_cmp number (key_number e.key)))
+    else is_lt (ordering_then (bytes_cmp e.key.user user) (nat_cmp number (key_number e.key)))
 
 -- before a key
 abbrev pub before : Key → Entry → Bool

@@ -135,7 +135,14 @@ fn values_are_read(rt: HostRuntime) -> Result<(), Fail> {
 #[test]
 fn entries_follow_each_other(rt: HostRuntime) -> Result<(), Fail> {
     let table = filled(rt.alloc())?;
-    for (seq, here, behind) in [(10, 9, 9), (9, 9, 5), (6, 5, 5), (5, 5, 2), (2, 2, 7), (1, 7, 7)] {
+    for (seq, here, behind) in [
+        (10, 9, 9),
+        (9, 9, 5),
+        (6, 5, 5),
+        (5, 5, 2),
+        (2, 2, 7),
+        (1, 7, 7),
+    ] {
         assert_eq!(rt; next_seq(rt.alloc(), &table, b"a", seq, false)?, here);
         assert_eq!(rt; next_seq(rt.alloc(), &table, b"a", seq, true)?, behind);
     }
@@ -176,7 +183,14 @@ fn add_many(alloc: Global, table: &mut MemTable, first: u64) -> Result<(), Fail>
 {
     for i in 0..4_000u16 {
         let user = i.wrapping_mul(7_919).to_be_bytes();
-        add(alloc, table, &user, first + u64::from(i), Kind::Value, b"value")?;
+        add(
+            alloc,
+            table,
+            &user,
+            first + u64::from(i),
+            Kind::Value,
+            b"value",
+        )?;
     }
     Ok(())
 }

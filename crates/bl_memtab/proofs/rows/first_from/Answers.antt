@@ -1,5 +1,5 @@
-use Rattle.std.proofs.Common.{◌≡◌, ℕ, ◌≤◌, ◌∙◌, Bool, List, None, length, sym, ap, subst, ltb-false, ltb-true, Some}
-use Rattle.std.specs.Prelude.{find, not, slice_get}
+use Rattle.std.proofs.Common.{◌≡◌, ◌≤◌, ◌∙◌, Bool, List, None, length, sym, ap, subst, ltb-false, ltb-true, Some}
+use Rattle.std.specs.Prelude.{slice_get}
 use Rattle.std.specs.List.{prefix_len}
 use Rattle.std.specs.Option.{option_copied}
 use Rattle.bl_entry.specs.Entries.{IsAscending}
@@ -34,7 +34,7 @@ returns c =
     let found = c.in_ok-row.ensures.lookup in
     let cut = before_cut c.args.user.now c.args.number c.args.strict (entries_in rows) c.requires.ascending in
     let here : slice_get rows (rows_before p rows) ≡ Some row =
-        ap (slice_get rows) (sym c.row_of.ensures) ∙ get_here rows c.row_of.result row (ltb-true c.row_of.result (length rows) (sym found.0)) found.1 in
+    ap (slice_get rows) (sym c.row_of.ensures) ∙ get_here rows c.row_of.result row (ltb-true c.row_of.result (length rows) (sym found.0)) found.1 in
     got c.deref.result.now c.place_in.result c.get-2.result c.get-2.ensures.lookup.3
     ∙ (λ i. slice_get (c.deref.ensures.value i) ((c.place_in.ensures ∙ ap (prefix_len p) c.deref-2.ensures.value) i))
     ∙ sym (find_in_rows p rows cut ∙ ap (first_in p) here)

@@ -1,4 +1,4 @@
-use Rattle.std.proofs.Common.{◌≡◌, ◌∙◌, ◌+◌, ◌*◌, arith, ap}
+use Rattle.std.proofs.Common.{◌∙◌, ◌+◌, ◌*◌, arith, ap}
 use Rattle.std.specs.Prelude.{option_and_then}
 use Rattle.std.specs.Option.{option_copied}
 use Rattle.bl_memtab.specs.Rows.{entries_in, if_of_user}

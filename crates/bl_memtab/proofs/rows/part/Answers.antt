@@ -1,7 +1,7 @@
-use Rattle.std.proofs.Common.{◌≡◌, ℕ, suc, ◌+◌, ◌/◌, ◌<◌, ◌≤◌, ◌∙◌, List, length, get_or, sym, ap, subst, arith, take, drop}
+use Rattle.std.proofs.Common.{◌≡◌, ℕ, suc, ◌+◌, ◌/◌, ◌<◌, ◌∙◌, List, length, get_or, sym, ap, subst, arith, take, drop}
 use Rattle.std.specs.Prelude.{slice_set}
 use Rattle.std.specs.List.{insert}
-use Rattle.bl_memtab.specs.Rows.{AreRows, Row, entries_in, row_at}
+use Rattle.bl_memtab.specs.Rows.{Row, entries_in, row_at}
 use Rattle.bl_memtab.proofs.PutLemmas.{StandFor, part_done}
 use Rattle.bl_memtab.proofs.RowLemmas.{get_inserted, row_at_is, with_two}
 use Rattle.bl_memtab.proofs.rows.part.Goals as goal
@@ -31,8 +31,8 @@ done c =
     let long : c.len-half.result ≡ length (row_at rows at) = omega (arith, ap length was, c.len-half.ensures, c.index.result.now.ok) in
     let one : at + 1 ≡ suc at = omega arith in
     let put : slice_set (slice_set c.insert.new.self.items at front) (at + 1) back ≡ with_two rows at c.new.result front back =
-        ap (λ rs. slice_set (slice_set rs at front) (at + 1) back) c.in_ok-insert.ensures.items
-        ∙ ap (λ n. slice_set (slice_set (insert rows n c.new.result) at front) n back) one in
+    ap (λ rs. slice_set (slice_set rs at front) (at + 1) back) c.in_ok-insert.ensures.items
+    ∙ ap (λ n. slice_set (slice_set (insert rows n c.new.result) at front) n back) one in
     subst (λ rs. StandFor rs (entries_in rows)) (sym put)
     (part_done rows at half c.new.result front back c.requires.rows c.requires.within (omega (arith, c.requires.long)) (omega (arith, c.requires.long))
     (c.in-Ok.ensures.items ∙ ap (take half) is) (c.in-Ok.ensures.tail ∙ ap (drop half) is))

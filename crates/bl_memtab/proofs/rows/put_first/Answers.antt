@@ -1,4 +1,4 @@
-use Rattle.std.proofs.Common.{◌≡◌, ◌∙◌, [], ◌∷◌, ◌++◌, List, sym, ap, subst}
+use Rattle.std.proofs.Common.{◌≡◌, ◌∙◌, [], ◌∷◌, ◌++◌, sym, ap, subst}
 use Rattle.bl_memtab.specs.Rows.{AreRows, Row}
 use Rattle.bl_memtab.proofs.RowLemmas.{no_rows, one_row}
 use Rattle.bl_memtab.proofs.rows.put_first.Goals as goal
