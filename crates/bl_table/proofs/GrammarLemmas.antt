@@ -110,7 +110,7 @@ good_block bytes h e =
     let count : ℕ = number_at block (length block - 4) in
     let limit : ℕ = length block - 4 - 4 * count in
     let l = good_limit h.offset (length block - 4) count block g.good refl refl in
-    let is : block_at h slice ≡ record (block_in h.offset block) { fault = (block_in h.offset block).fault or trailer_fault (h.offset + h.size) block (drop h.size slice) } = block_whole slice h (block_in h.offset block) g.whole g.fits refl in
+    let is : block_at h slice ≡ record (block_in h.offset block) { fault = (block_in h.offset block).fault and trailer_fault (h.offset + h.size) block (drop h.size slice) } = block_whole slice h (block_in h.offset block) g.whole g.fits refl in
     let cells : (block_at h slice).cells ≡ (cells_in (take limit block)).cells = ap (λ (b : Contents). b.cells) is ∙ ap (λ (b : Contents). b.cells) l.0 in
     let P : List Cell → Type 0 = λ l. entry_fault h.offset None l ≡ None in
     record {
