@@ -8,7 +8,7 @@ use Rattle.std.specs.Prelude.{slice_get, not}
 use Rattle.bl_table.specs.declared.fault.TableRule.TheVariants.{Entry, Order}
 use Rattle.bl_table.specs.declared.handle.Handle.{Handle}
 use Rattle.bl_table.specs.declared.whole.Named.{Named}
-use Rattle.bl_table.specs.Faults.{Fault, ◌and◌, ◌or◌, rank, comes_first, expect}
+use Rattle.bl_table.specs.Faults.{Fault, ◌and◌, rank, comes_first, expect}
 use Rattle.bl_table.specs.Blocks.{Contents, block_in, block_at, trailer_fault, Cell, Cells, cell_at, cells_at, cells_in, entry_of, head_entry}
 use Rattle.bl_table.specs.Whole.{block_of, no_entry, meta_fault, last_entry, ascend, descend, first_fault, order_fault, last_fault}
 use Rattle.bl_table.specs.Wholes.{IsFound, orders}

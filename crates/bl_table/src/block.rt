@@ -17,7 +17,7 @@ use std::marker::Model;
 use std::mem;
 
 /// The bytes of a trailer: a type, and a checksum of four bytes.
-const TRAILER: u64 = 5;
+pub(crate) const TRAILER: u64 = 5;
 
 /// A block that was read and found good. Contracts see its entries.
 #[derive(Drop)]
