@@ -6,7 +6,7 @@ ghost use Rattle.bl_site.specs.Causes.{Rose};
 ghost use Rattle.bl_site.specs.Quiet.{OnlyReads};
 ghost use Rattle.bl_names.specs.Names.{IsNumber};
 ghost use Rattle.bl_entry.specs.Batches.{IsOperation};
-ghost use Rattle.bl_wal.specs.Entries.{entry, entries_from};
+ghost use Rattle.bl_entry.specs.Written.{entry, entries_from};
 ghost use Rattle.bl_wal.specs.LogFile.{log_name};
 ghost use Rattle.bl_wal.specs.Replay.{HasEntries, EndsAt, IsTorn, Taken};
 
