@@ -10,7 +10,7 @@ use Rattle.bl_records.specs.FileReading.{FileReading, HasFound, FindsNext, EndsB
 use Rattle.bl_entry.specs.Batches.{Batch}
 use Rattle.bl_entry.specs.Records.{batches_of, and_batches, BatchesJoin}
 use Rattle.bl_entry.specs.declared.key.Entry.{Entry}
-use Rattle.bl_wal.specs.Entries.{entries_from, entries_of}
+use Rattle.bl_entry.specs.Written.{entries_from, entries_of}
 use Rattle.bl_wal.specs.LogFile.{log_name}
 use Rattle.bl_wal.specs.Replay.{Taken, HasEntries, EndsAt, IsTorn}
 use Rattle.bl_wal.specs.declared.error.WalErr.{WalErr}

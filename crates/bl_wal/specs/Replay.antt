@@ -5,8 +5,8 @@ use Rattle.bl_log.specs.Log.{records, placed_records, ending}
 use Rattle.bl_entry.specs.Batches.{Batch}
 use Rattle.bl_entry.specs.Records.{batches_of}
 use Rattle.bl_entry.specs.declared.key.Entry.{Entry}
+use Rattle.bl_entry.specs.Written.{entries_of}
 use Rattle.bl_wal.specs.declared.replayed.LogEnd.{LogEnd}
-use Rattle.bl_wal.specs.Entries.{entries_of}
 use Rattle.bl_wal.specs.LogFile.{log_name}
 
 -- each record of the bytes is a batch that begins behind the last sequence; these are the entries, and the last sequence behind them
