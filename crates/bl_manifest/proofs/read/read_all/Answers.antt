@@ -1,4 +1,4 @@
-use Rattle.std.proofs.Common.{◌≡◌, true, false, inl, refl, sym, ◌∙◌, ap, arith}
+use Rattle.std.proofs.Common.{◌≡◌, true, false, inl, sym, ◌∙◌, ap}
 use Rattle.bl_site.specs.Disk.{Disk, folder_of}
 use Rattle.bl_names.specs.Names.{manifest_name}
 use Rattle.bl_records.proofs.AnswerLemmas.{record_of, end_of}
