@@ -14,7 +14,8 @@ use Rattle.bl_folder.specs.Laws.{CutsOfSynced, SyncedAreSettled}
 use Rattle.bl_folder.specs.Live.{IsLive}
 use Rattle.bl_folder.specs.Needed.{KeepsNeeded}
 use Rattle.bl_folder.specs.Settled.{IsSynced, IsLiveSettled, NamesSynced, NeededAreSynced}
-use Rattle.bl_entry.proofs.ItemLemmas.{all_contained, all_to, contains_map, some_is}
+use Rattle.bl_code.proofs.Basics.{all_from}
+use Rattle.bl_entry.proofs.ItemLemmas.{all_contained, contains_map, some_is}
 use Rattle.bl_folder.proofs.FrameLemmas.{frame, log_none, none_of}
 use Rattle.bl_folder.proofs.SettledLemmas.{left_none, left_same, synced_remnant}
 
@@ -47,8 +48,8 @@ synced_is_settled disk manifest live l current synced named = record {
 -- and so is one whose needed files are
 pub synced_are_settled : SyncedAreSettled
 synced_are_settled disk manifest live l synced = inr (synced_is_settled disk manifest live l (synced Current tt) (synced (Manifest manifest) refl) record {
-  tables = all_to _ _ live.version.tables (λ t h. synced (Table t.number) (contains_map (λ (u : NewTable). u.number) live.version.tables t h.0)) (all_contained (λ t. Unit {0}) live.version.tables (each live.version.tables));
-  blobs = all_to _ _ live.version.blobs (λ b h. synced (Blob b.number) (contains_map (λ (u : BlobMeta). u.number) live.version.blobs b h.0)) (all_contained (λ b. Unit {0}) live.version.blobs (each live.version.blobs));
+  tables = all_from _ _ live.version.tables (λ t h. synced (Table t.number) (contains_map (λ (u : NewTable). u.number) live.version.tables t h.0)) (all_contained (λ t. Unit {0}) live.version.tables (each live.version.tables));
+  blobs = all_from _ _ live.version.blobs (λ b h. synced (Blob b.number) (contains_map (λ (u : BlobMeta). u.number) live.version.blobs b h.0)) (all_contained (λ b. Unit {0}) live.version.blobs (each live.version.blobs));
 })
   where
     each : {A : Type 0} (xs : List A) → AllByRecursion (λ x. Unit {0}) xs

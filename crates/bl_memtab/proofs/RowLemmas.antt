@@ -243,7 +243,3 @@ pub got : (xs : List Entry) (i : ℕ) (found : Option (Bor Entry)) → MatchOpti
     → option_copied found ≡ slice_get xs i
 got xs i None h = sym (get_end xs i h)
 got xs i (Some x) h = sym (get_here xs i x.now h.0 (h.1 x.now))
-
-pub on_err : {A E : Type 0} (result : Result A E) (P : Type 0) → P → OnErr result P
-on_err (Ok x) P h = tt
-on_err (Err e) P h = h
