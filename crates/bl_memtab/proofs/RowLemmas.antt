@@ -1,6 +1,6 @@
 -- Entries in rows, read and changed as one list.
 use Rattle.std.proofs.Common.{◌≡◌, ℕ, zero, suc, ◌+◌, ◌-◌, ◌<◌, ◌≤◌, Bool, true, false, cond, List, [], ◌∷◌, ◌++◌, length, get_or, map, refl, sym, ◌∙◌, ap, subst, arith, append_assoc}
-use Rattle.std.specs.Prelude.{find, not, min, slice_get, slice_set, Option, Some, None, MatchOption, OnErr, Result, Ok, Err, option_and_then}
+use Rattle.std.specs.Prelude.{find, not, min, slice_get, slice_set, Option, Some, None, MatchOption, option_and_then}
 use Rattle.std.specs.Borrow.{Bor}
 use Rattle.std.specs.List.{AllByRecursion, HoldsAt, prefix_len, insert}
 use Rattle.std.specs.List.Sorted.{IsStrictlySortedBy}
