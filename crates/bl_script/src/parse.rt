@@ -3,16 +3,15 @@
 ghost use Rattle.std.specs.Prelude.{◌≡◌, ℕ, ◌<◌, ◌≤◌, [], ◌∷◌, ◌++◌, length, IfOk, IfSome, MatchOption, Some, None, codes};
 ghost use Rattle.std.specs.List.{list_any};
 ghost use Rattle.std.specs.Option.{option_map};
-ghost use Rattle.percent_encoding.specs.Percent.{percent_decode as decoded};
 ghost use Rattle.bl_script.specs.Lines.{words};
 ghost use Rattle.bl_script.specs.Parsing.{is, value, bound, operations, batch_of, scan_of, with_none, with_one, with_two, fixed_of, command_of, allowed, parsed, is_long_key, is_long_bound, puts_long_key, puts_long_value, has_long_key, has_long_value};
 ghost use Rattle.bl_script.specs.Limits.{IsWithinLimits, ParsedAreWithinLimits};
 
 use crate::command::{Command, Operation, Operations, Parsed, Refusal};
+use crate::decode::decode;
 use crate::error::ScriptErr;
 use crate::words::next_word;
 use bl_code::Octets;
-use percent_encoding::percent_decode;
 use std::alloc::Global;
 
 /// The most bytes of a line that is obeyed. A 0x0D at its end that is dropped does not count.
@@ -21,15 +20,6 @@ pub const MAX_LINE: usize = 67_108_864;
 const MAX_KEY: usize = 65_535;
 
 const MAX_VALUE: usize = 16_777_216;
-
-// The bytes that a word stands for.
-fn decode(alloc: Global, word: &[u8]) -> Result<Octets, ScriptErr>
-    ensures { IfOk result (λ octets. octets ≡ decoded word.now) }
-{
-    let mut bytes = Vec::with_capacity(alloc, word.len())?;
-    percent_decode(word).append_to(&mut bytes)?;
-    Ok(Octets::from_vec(bytes))
-}
 
 // The value of a word that begins with =.
 fn value_of(alloc: Global, word: &[u8]) -> Result<Option<Octets>, ScriptErr>
