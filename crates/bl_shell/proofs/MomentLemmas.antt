@@ -30,18 +30,20 @@ module _ {D : Type 0} (clock : D → ℕ) (left_since : D → ℕ → Cut → Ty
         is_cut = record { image = is.image; told_is = refl; written_is = is.written_is };
       }))
 
+  -- nothing of these bytes is told
+  pub quiet_telling : (site : D) (bytes : List ℕ) → ((other : Disk) → may_be site other → other ≡ disk site) → ((c : Cut) → left_since site (clock site) c → MayLeave (may_be site) (told site) c)
+      → LeavesOnly clock left_since site site (CutTelling (disk site) bytes (told site))
+  quiet_telling site bytes only now = still site (CutTelling (disk site) bytes (told site)) only now
+      (λ c is. record {
+        tells = record { front = []; rest = bytes; whole = refl; told_is = is.told_is ∙ sym (append-nil (told site)) };
+        is_cut = record { image = is.image; told_is = refl; written_is = is.written_is };
+      })
+
   -- only these bytes are told
   pub telling : (old new : D) (bytes : List ℕ) → Elapses (clock old) (clock new) (left_since old) (left_since new) (Tells (may_be old) (told old) bytes)
       → ((other : Disk) → may_be old other → other ≡ disk old) → ((c : Cut) → left_since old (clock old) c → MayLeave (may_be old) (told old) c)
       → LeavesOnly clock left_since old new (CutTelling (disk old) bytes (told old))
-  telling old new bytes time only now = tells_on old old new (CutTelling (disk old) bytes (told old)) bytes
-      (still old (CutTelling (disk old) bytes (told old)) only now (λ c is. quiet c is)) time only (λ c t. t)
-    where
-      quiet : (c : Cut) → IsCut (disk old) (told old) c → CutTelling (disk old) bytes (told old) c
-      quiet c is = record {
-        tells = record { front = []; rest = bytes; whole = refl; told_is = is.told_is ∙ sym (append-nil (told old)) };
-        is_cut = record { image = is.image; told_is = refl; written_is = is.written_is };
-      }
+  telling old new bytes time only now = tells_on old old new (CutTelling (disk old) bytes (told old)) bytes (quiet_telling old bytes only now) time only (λ c t. t)
 
   -- while memory runs out before an order is begun
   pub unbegun : CutsStand → (order : Parsed) (store : Stored) (batches : List Batch) (least : ℕ) (site : D) → ((other : Disk) → may_be site other → other ≡ disk site)

@@ -4,6 +4,7 @@
 mod batch;
 mod lines;
 mod obey;
+mod scan;
 mod serve;
 mod status;
 mod stop;

@@ -17,10 +17,10 @@ ghost use Rattle.bl_shell.specs.Carried.{Stays, TellsFront, Obeyed, Passes, HasR
 ghost use Rattle.bl_shell.specs.Causes.{IsInner, IsSilent};
 
 use crate::batch::{batch_of, batch_of_del, batch_of_put};
+use crate::scan::tell_pairs;
 use crate::stop::Stop;
-use bl_code::Octets;
 use bl_entry::Batch;
-use bl_script::{Command, Parsed, print_pair, print_refusal, print_value};
+use bl_script::{Command, Parsed, print_refusal, print_value};
 use bl_site::Site;
 use bl_store::{Store, batches_are_once, cuts_stand, damaged_do_not_stand, stores_stand};
 use std::alloc::Global;
@@ -69,33 +69,6 @@ fn do_tell<S: Site>(store: &Store, reply: &[u8], site: &mut S) -> Result<(), Sto
     ensures later { (S.disk_faults site.old ≤ S.disk_faults site.new) × (S.tell_faults site.old ≤ S.tell_faults site.new) }
 {
     site.tell(reply)?;
-    Ok(())
-}
-
-// The pairs of a scan, one line each, and the line behind them.
-fn tell_pairs<S: Site>(
-    store: &Store,
-    alloc: Global,
-    from: Option<&Octets>,
-    to: Option<&Octets>,
-    site: &mut S,
-) -> Result<(), Stop>
-    ensures ok { S.shows → OnOk result (S.told site.new ≡ S.told site.old ++ reply (Command.Scan (option_copied from.entry) (option_copied to.entry)) store.now.now) }
-    ensures stays { S.shows → S.disk site.new ≡ S.disk site.old }
-    ensures front { S.shows → OnErr result (TellsFront (reply (Command.Scan (option_copied from.entry) (option_copied to.entry)) store.now.now) (S.told site.old) (S.told site.new)) }
-    ensures tell { IsErrOf result Stop.Tell → Rose (S.tell_faults site.old) (S.tell_faults site.new) }
-    ensures others { S.shows → KeepsOthers (S.disk site.old) (S.disk site.new) }
-    ensures causes { IfErr result (λ e. (e ≡ Stop.Tell) ⊎ (e ≡ Stop.OutOfMemory)) }
-    ensures certain { S.shows → S.certain site.old → S.certain site.new }
-    ensures cuts { S.shows → S.certain site.old → LeavesOnly S.clock S.left_since site.old site.new
-        (CutTelling (S.disk site.old) (reply (Command.Scan (option_copied from.entry) (option_copied to.entry)) store.now.now) (S.told site.old)) }
-    ensures later { (S.disk_faults site.old ≤ S.disk_faults site.new) × (S.tell_faults site.old ≤ S.tell_faults site.new) }
-{
-    for (key, value) in store.pairs(from, to) {
-        let line = print_pair(alloc, key.as_slice(), value.as_slice())?;
-        site.tell(line.as_bytes())?;
-    }
-    site.tell(b"end\n")?;
     Ok(())
 }
 
