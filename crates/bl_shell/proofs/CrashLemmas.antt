@@ -87,10 +87,10 @@ module _ {D : Type 0} (clock : D → ℕ) (left_since : D → ℕ → Cut → Ty
       joins clock left_since old mid new P (widened clock left_since old mid _ P (λ c b. inl b) first)
       (widened clock left_since mid new _ P (λ c o. inr (began, begins, (let R : List ℕ → Type 0 = λ t. Q t c in subst R same o))) second)
 
-  pub opened_stops : (old mid new : D) (folder : Folder) (script : List ℕ) (limit : ℕ) → LeavesOnly clock left_since old mid (BeforeBarrier folder (may_be old) (told old))
-      → Stops folder script (told mid) (told new) limit (LeavesOnly clock left_since mid new) → told mid ≡ told old
-      → StopsRun (may_be old) folder script (told old) (told new) limit (LeavesOnly clock left_since old new)
-  opened_stops old mid new folder script limit first s same = record {
+  pub opened_stops : (old mid new : D) (folder after : Folder) (script : List ℕ) (limit : ℕ) → LeavesOnly clock left_since old mid (BeforeBarrier folder (may_be old) (told old))
+      → Stops folder after script (told mid) (told new) limit (LeavesOnly clock left_since mid new) → told mid ≡ told old
+      → StopsRun (may_be old) folder after script (told old) (told new) limit (LeavesOnly clock left_since old new)
+  opened_stops old mid new folder after script limit first s same = record {
     replies = s.replies;
     full = inr s.passes;
     told_is = s.told_is ∙ ap (λ t. t ++ s.replies) same;
@@ -241,10 +241,10 @@ full_told status limit mid next is ends = elim ends [
 ]
 
 -- a run that a limit ended
-pub has_stopped : (status : Status) (may_be : Disk → Type 0) (folder : Folder) (script told mid next : List ℕ) (limit : ℕ) (before since : (Cut → Type 0) → Type 0) → status ≡ Full
-    → (s : StopsRun may_be folder script told mid limit before) → EndsAs Full status (full_line limit) mid next
-    → since (CutOfRun may_be folder (given_before folder script s.replies limit s.full) told) → HasStopped may_be folder script told next since
-has_stopped status may_be folder script told mid next limit before since is s ends cuts = record {
+pub has_stopped : (status : Status) (may_be : Disk → Type 0) (folder after : Folder) (script told mid next : List ℕ) (limit : ℕ) (before since : (Cut → Type 0) → Type 0) → status ≡ Full
+    → (s : StopsRun may_be folder after script told mid limit before) → EndsAs Full status (full_line limit) mid next
+    → since (CutOfRun may_be folder (given_before folder after script s.replies limit s.full) told) → HasStopped may_be folder after script told next since
+has_stopped status may_be folder after script told mid next limit before since is s ends cuts = record {
   replies = s.replies;
   limit = limit;
   full = s.full;

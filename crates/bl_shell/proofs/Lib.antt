@@ -5,6 +5,7 @@ mod CrashLemmas
 mod CutLemmas
 mod EndLemmas
 mod HistoryLemmas
+mod LeaveLemmas
 mod LimitLemmas
 mod LineLemmas
 mod MomentLemmas

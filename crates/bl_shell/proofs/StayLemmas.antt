@@ -169,7 +169,7 @@ stands law store batches least disk s =
     let P : List Batch → Type 0 = λ bs. Stands (folder_of disk) bs store.last in
     subst P s.all (law store.log s.older s.own s.synced store.last disk s.whole s.carries.on)
 
-log_there : (store : Stored) (batches : List Batch) (least : ℕ) (disk : Disk) (s : Stays store batches least disk) → IsSome (folder_of disk (log_name store.log.number))
+pub log_there : (store : Stored) (batches : List Batch) (least : ℕ) (disk : Disk) (s : Stays store batches least disk) → IsSome (folder_of disk (log_name store.log.number))
 log_there store batches least disk s = let P : Option (List ℕ) → Type 0 = IsSome in subst P (sym (ap (option_map (λ (file : File). file.read)) s.carries.on.holds.there)) refl
 
 -- no log is greater than the one in use

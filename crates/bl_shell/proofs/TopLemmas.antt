@@ -18,7 +18,7 @@ use Rattle.bl_shell.specs.declared.status.Status.TheVariants.{Done, Words, ReadF
 use Rattle.bl_shell.specs.Causes.{IsForScript, IsInner, IsReading, IsSilent, IsOpening, IsRefusal, MayEnd, EndsAs, status_of, stop_of_store}
 use Rattle.bl_shell.specs.Carried.{Starts, TellsFront}
 use Rattle.bl_shell.specs.Cuts.{IsPastOpening, StopsBeforeScript}
-use Rattle.bl_shell.specs.Telling.{Begins, HasBegun, HasEnded, PassesIn, IsFull, corrupt_line, full_line}
+use Rattle.bl_shell.specs.Telling.{Begins, HasBegun, HasFaltered, HasEnded, PassesIn, IsFull, corrupt_line, full_line}
 use Rattle.bl_store.proofs.OtherLemmas.{same_no_next}
 use Rattle.bl_shell.proofs.BreakLemmas.{breaks_in}
 use Rattle.bl_shell.proofs.LimitLemmas.{ends}
@@ -70,6 +70,13 @@ stop_full (store.Corrupt name place) limit is = absurd (cc is)
 stop_full (store.Full number) limit is = let same : number ≡ limit = cc is in ap store.Full same
 stop_full store.Broken limit is = absurd (cc is)
 
+pub stop_not_tell : (e : StoreErr) → stop_of_store e ≡ stop.Tell → ⊥
+stop_not_tell store.Disk is = cc is
+stop_not_tell store.OutOfMemory is = cc is
+stop_not_tell (store.Corrupt name place) is = cc is
+stop_not_tell (store.Full number) is = cc is
+stop_not_tell store.Broken is = cc is
+
 pub stop_corrupt : (e : StoreErr) (name : Name) (place : ℕ) → stop_of_store e ≡ stop.Corrupt name place → e ≡ store.Corrupt name place
 stop_corrupt store.Disk name place is = absurd (cc is)
 stop_corrupt store.OutOfMemory name place is = absurd (cc is)
@@ -81,14 +88,14 @@ stop_corrupt (store.Full number) name place is = absurd (cc is)
 stop_corrupt store.Broken name place is = absurd (cc is)
 
 -- a front of the replies was told, and then a limit stood in the way of the next line
-pub passes_begun : (folder : Folder) (script replies told next : List ℕ) (limit : ℕ) → PassesIn folder script replies limit → next ≡ told ++ replies → HasBegun folder script told next
-passes_begun folder script replies told next limit p is =
+passes_begun : (folder after : Folder) (script replies told next : List ℕ) (limit : ℕ) → PassesIn folder after script replies limit → next ≡ told ++ replies → HasBegun folder script told next
+passes_begun folder after script replies told next limit p is =
     breaks_in folder p.began script told next next p.history p.mid p.order p.rest p.begins p.fits (inl refl) p.orders_are p.runs (is ∙ ap (λ r. told ++ r) p.replies_are) (tells_nothing _ _ _ refl)
 
-full_begun : (folder : Folder) (script replies told next : List ℕ) (limit : ℕ) → IsFull folder script replies limit → next ≡ told ++ replies → (next ≡ told) ⊎ HasBegun folder script told next
-full_begun folder script replies told next limit full is = elim full [
-  | inl f ↦ inl (is ∙ ap (λ r. told ++ r) f.2 ∙ append-nil told)
-  | inr p ↦ inr (passes_begun folder script replies told next limit p is)
+full_begun : (folder after : Folder) (script replies told next : List ℕ) (limit : ℕ) → IsFull folder after script replies limit → next ≡ told ++ replies → (next ≡ told) ⊎ HasBegun folder script told next
+full_begun folder after script replies told next limit full is = elim full [
+  | inl f ↦ inl (is ∙ ap (λ r. told ++ r) f.none_told ∙ append-nil told)
+  | inr p ↦ inr (passes_begun folder after script replies told next limit p is)
 ]
 
 -- how a run ends whose last line is told, or could not be
@@ -96,46 +103,44 @@ abbrev pub IsShort : Status → Type 0
 IsShort status = (status ≡ TellFault) ⊎ (status ≡ DiskFault) ⊎ (status ≡ OutOfMemory)
 
 -- what a run told that ended short
-abbrev pub Front : Folder → List ℕ → List ℕ → List ℕ → Status → Type 0
-Front folder script told next status =
-    (next ≡ told) ⊎ HasBegun folder script told next ⊎ ((status ≡ TellFault) × HasEnded folder script told next)
+abbrev pub Front : Folder → Folder → List ℕ → List ℕ → List ℕ → Status → Type 0
+Front folder after script told next status =
+    (next ≡ told) ⊎ HasBegun folder script told next ⊎ ((status ≡ TellFault) × HasEnded folder after script told next)
 
-module _ (folder : Folder) (script told mid next : List ℕ) (status : Status) where
-  corrupt_front : (name : Name) (place : ℕ) → IsDamaged folder name place → mid ≡ told → EndsAs Corrupt status (corrupt_line name place) mid next → IsShort status → Front folder script told next status
-  corrupt_front name place damaged same ends short = elim ends [
+module _ (folder after : Folder) (script told mid next : List ℕ) (status : Status) where
+  -- a front of the line that ends it
+  corrupt_ended : (name : Name) (place : ℕ) → IsDamaged folder name place → after ≡ folder → mid ≡ told → TellsFront (corrupt_line name place) mid next → HasEnded folder after script told next
+  corrupt_ended name place damaged kept same tells = record {
+    replies = [];
+    line = corrupt_line name place;
+    ends = inl (name, (place, (damaged, kept, refl, refl)));
+    front = let P : List ℕ → Type 0 = λ t. TellsFront (corrupt_line name place) t next in subst P (same ∙ sym (append-nil told)) tells;
+  }
+
+  full_ended : (replies : List ℕ) (limit : ℕ) → IsFull folder after script replies limit → mid ≡ told ++ replies → TellsFront (full_line limit) mid next → HasEnded folder after script told next
+  full_ended replies limit full is tells = record {
+    replies = replies;
+    line = full_line limit;
+    ends = inr (limit, (full, refl));
+    front = let P : List ℕ → Type 0 = λ t. TellsFront (full_line limit) t next in subst P is tells;
+  }
+
+  corrupt_front : (name : Name) (place : ℕ) → IsDamaged folder name place → after ≡ folder → mid ≡ told → EndsAs Corrupt status (corrupt_line name place) mid next → IsShort status → Front folder after script told next status
+  corrupt_front name place damaged kept same ends short = elim ends [
     | inl all ↦ absurd (elim short [ inl s ↦ cc (all.0, s) | inr more ↦ elim more [ inl s ↦ cc (all.0, s) | inr s ↦ cc (all.0, s) ] ])
-    | inr more ↦ elim more [
-      | inl some ↦ inr (inr (
-        some.0,
-        record {
-          replies = [];
-          line = corrupt_line name place;
-          ends = inl (name, (place, (damaged, refl, refl)));
-          front = let P : List ℕ → Type 0 = λ t. TellsFront (corrupt_line name place) t next in subst P (same ∙ sym (append-nil told)) some.1;
-        },
-      ))
-      | inr none ↦ inl (none.1 ∙ same)
-    ]
+    | inr more ↦ elim more [ inl some ↦ inr (inr (some.0, corrupt_ended name place damaged kept same some.1)) | inr none ↦ inl (none.1 ∙ same) ]
   ]
 
-  full_front : (replies : List ℕ) (limit : ℕ) → IsFull folder script replies limit → mid ≡ told ++ replies → EndsAs Full status (full_line limit) mid next → IsShort status → Front folder script told next status
+  full_front : (replies : List ℕ) (limit : ℕ) → IsFull folder after script replies limit → mid ≡ told ++ replies → EndsAs Full status (full_line limit) mid next → IsShort status → Front folder after script told next status
   full_front replies limit full is ends short = elim ends [
     | inl all ↦ absurd (elim short [ inl s ↦ cc (all.0, s) | inr more ↦ elim more [ inl s ↦ cc (all.0, s) | inr s ↦ cc (all.0, s) ] ])
     | inr more ↦ elim more [
-      | inl some ↦ inr (inr (
-        some.0,
-        record {
-          replies = replies;
-          line = full_line limit;
-          ends = inr (limit, (full, refl));
-          front = let P : List ℕ → Type 0 = λ t. TellsFront (full_line limit) t next in subst P is some.1;
-        },
-      ))
-      | inr none ↦ elim (full_begun folder script replies told next limit full (none.1 ∙ is)) [ inl quiet ↦ inl quiet | inr begun ↦ inr (inl begun) ]
+      | inl some ↦ inr (inr (some.0, full_ended replies limit full is some.1))
+      | inr none ↦ elim (full_begun folder after script replies told next limit full (none.1 ∙ is)) [ inl quiet ↦ inl quiet | inr begun ↦ inr (inl begun) ]
     ]
   ]
 
-  silent_front : (s : Stop) → IsSilent s → next ≡ mid → (IsSilent s → (mid ≡ told) ⊎ HasBegun folder script told mid) → Front folder script told next status
+  silent_front : (s : Stop) → IsSilent s → next ≡ mid → (IsSilent s → (mid ≡ told) ⊎ HasBegun folder script told mid) → Front folder after script told next status
   silent_front s silent same front = elim (front silent) [
     | inl quiet ↦ inl (same ∙ quiet)
     | inr begun ↦ inr (inl (let P : List ℕ → Type 0 = λ t. HasBegun folder script told t in subst P (sym same) begun))
@@ -143,10 +148,10 @@ module _ (folder : Folder) (script told mid next : List ℕ) (status : Status) w
 
   -- what a run told that a stop ended
   pub ended_front : (s : Stop) → (IsSilent s → next ≡ mid) → (IsSilent s → (mid ≡ told) ⊎ HasBegun folder script told mid)
-      → ((name : Name) (place : ℕ) → s ≡ stop.Corrupt name place → IsDamaged folder name place × (mid ≡ told))
+      → ((name : Name) (place : ℕ) → s ≡ stop.Corrupt name place → IsDamaged folder name place × (mid ≡ told) × (after ≡ folder))
       → ((name : Name) (place : ℕ) → s ≡ stop.Corrupt name place → EndsAs Corrupt status (corrupt_line name place) mid next)
-      → ((limit : ℕ) → s ≡ stop.Full limit → (replies : List ℕ) × IsFull folder script replies limit × (mid ≡ told ++ replies))
-      → ((limit : ℕ) → s ≡ stop.Full limit → EndsAs Full status (full_line limit) mid next) → IsShort status → Front folder script told next status
+      → ((limit : ℕ) → s ≡ stop.Full limit → (replies : List ℕ) × IsFull folder after script replies limit × (mid ≡ told ++ replies))
+      → ((limit : ℕ) → s ≡ stop.Full limit → EndsAs Full status (full_line limit) mid next) → IsShort status → Front folder after script told next status
   ended_front stop.Read same front damaged corrupt full fulls short = silent_front stop.Read tt (same tt) front
   ended_front stop.Tell same front damaged corrupt full fulls short = silent_front stop.Tell tt (same tt) front
   ended_front stop.Disk same front damaged corrupt full fulls short = silent_front stop.Disk tt (same tt) front
@@ -154,10 +159,35 @@ module _ (folder : Folder) (script told mid next : List ℕ) (status : Status) w
   ended_front stop.Long same front damaged corrupt full fulls short = silent_front stop.Long tt (same tt) front
   ended_front (stop.Corrupt name place) same front damaged corrupt full fulls short =
       let d = damaged name place refl in
-      corrupt_front name place d.0 d.1 (corrupt name place refl) short
+      corrupt_front name place d.0 d.2 d.1 (corrupt name place refl) short
   ended_front (stop.Full limit) same front damaged corrupt full fulls short =
       let f = full limit refl in
       full_front f.0 limit f.1 f.2 (fulls limit refl) short
+
+  of_front : (meant : Status) (line : List ℕ) → status ≡ TellFault → (meant ≡ TellFault → ⊥) → EndsAs meant status line mid next → TellsFront line mid next
+  of_front meant line is other ends = elim ends [
+    | inl all ↦ absurd (other (sym all.0 ∙ is))
+    | inr more ↦ elim more [ inl some ↦ some.1 | inr none ↦ absurd (cc (none.0, is)) ]
+  ]
+
+  -- what a run left that could not tell a line
+  pub untold : (s : Stop) → status ≡ TellFault → (IsSilent s → (status ≡ status_of s) × (next ≡ mid)) → (s ≡ stop.Tell → HasFaltered folder after script told mid)
+      → ((name : Name) (place : ℕ) → s ≡ stop.Corrupt name place → IsDamaged folder name place × (mid ≡ told) × (after ≡ folder))
+      → ((name : Name) (place : ℕ) → s ≡ stop.Corrupt name place → EndsAs Corrupt status (corrupt_line name place) mid next)
+      → ((limit : ℕ) → s ≡ stop.Full limit → (replies : List ℕ) × IsFull folder after script replies limit × (mid ≡ told ++ replies))
+      → ((limit : ℕ) → s ≡ stop.Full limit → EndsAs Full status (full_line limit) mid next) → HasFaltered folder after script told next ⊎ HasEnded folder after script told next
+  untold stop.Read is silent faltered damaged corrupt full fulls = absurd (cc ((silent tt).0, is))
+  untold stop.Tell is silent faltered damaged corrupt full fulls =
+      inl (let P : List ℕ → Type 0 = λ t. HasFaltered folder after script told t in subst P (sym (silent tt).1) (faltered refl))
+  untold stop.Disk is silent faltered damaged corrupt full fulls = absurd (cc ((silent tt).0, is))
+  untold stop.OutOfMemory is silent faltered damaged corrupt full fulls = absurd (cc ((silent tt).0, is))
+  untold stop.Long is silent faltered damaged corrupt full fulls = absurd (cc ((silent tt).0, is))
+  untold (stop.Corrupt name place) is silent faltered damaged corrupt full fulls =
+      let d = damaged name place refl in
+      inr (corrupt_ended name place d.0 d.2 d.1 (of_front Corrupt (corrupt_line name place) is (λ e. cc e) (corrupt name place refl)))
+  untold (stop.Full limit) is silent faltered damaged corrupt full fulls =
+      let f = full limit refl in
+      inr (full_ended f.0 limit f.1 f.2 (of_front Full (full_line limit) is (λ e. cc e) (fulls limit refl)))
 
 -- where an inner stop ends a run, its status is none of one that has read
 not_for_script : (s : Stop) → IsInner s → IsForScript (status_of s) → ⊥
@@ -218,6 +248,21 @@ stop_is_reading s status may brought =
       | inl is ↦ for_script s (subst IsForScript is read)
       | inr more ↦ elim more [ inl is ↦ absurd (subst IsForScript is read) | inr is ↦ absurd (subst IsForScript is read) ]
     ]
+
+stop_of_long : (s : Stop) → status_of s ≡ Long → s ≡ stop.Long
+stop_of_long stop.Read is = absurd (cc is)
+stop_of_long stop.Tell is = absurd (cc is)
+stop_of_long stop.Disk is = absurd (cc is)
+stop_of_long stop.OutOfMemory is = absurd (cc is)
+stop_of_long stop.Long is = refl
+stop_of_long (stop.Corrupt name place) is = absurd (cc is)
+stop_of_long (stop.Full limit) is = absurd (cc is)
+
+pub stop_is_long : (s : Stop) (status : Status) → MayEnd s status → status ≡ Long → s ≡ stop.Long
+stop_is_long s status may is = elim may [
+  | inl same ↦ stop_of_long s (sym same ∙ is)
+  | inr more ↦ elim more [ inl other ↦ absurd (cc (other, is)) | inr other ↦ absurd (cc (other, is)) ]
+]
 
 stop_of_corrupt : (s : Stop) → status_of s ≡ Corrupt → (name : Name) × ((place : ℕ) × (s ≡ stop.Corrupt name place))
 stop_of_corrupt stop.Read is = absurd (cc is)

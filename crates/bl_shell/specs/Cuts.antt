@@ -71,17 +71,17 @@ abbrev pub as_it_reads : Disk → List ℕ → Cut
 as_it_reads disk told = record { folder = folder_of disk; told = told; written = written_of disk }
 
 -- the orders before the one that would pass a limit; an opening has none
-abbrev pub given_before : (folder : Folder) (script replies : List ℕ) (limit : ℕ) → IsFull folder script replies limit → List Parsed
-given_before folder script replies limit (inl opening) = []
-given_before folder script replies limit (inr passes) = orders_of passes.history
+abbrev pub given_before : (folder folder_after : Folder) (script replies : List ℕ) (limit : ℕ) → IsFull folder folder_after script replies limit → List Parsed
+given_before folder folder_after script replies limit (inl opening) = []
+given_before folder folder_after script replies limit (inr passes) = orders_of passes.history
 
 -- A limit ended a run: the replies to the orders before the one in hand were told, and a line that says which limit. That order is not accepted: no cut holds what it writes.
-pub record HasStopped (may_be : Disk → Type 0) (folder : Folder) (script told told_after : List ℕ) (since : (Cut → Type 0) → Type 0) : Type 0 where
+pub record HasStopped (may_be : Disk → Type 0) (folder folder_after : Folder) (script told told_after : List ℕ) (since : (Cut → Type 0) → Type 0) : Type 0 where
   pub replies : List ℕ
   pub limit : ℕ
-  pub full : IsFull folder script replies limit
+  pub full : IsFull folder folder_after script replies limit
   pub told_is : told_after ≡ (told ++ replies) ++ full_line limit
-  pub cuts : since (CutOfRun may_be folder (given_before folder script replies limit full) told)
+  pub cuts : since (CutOfRun may_be folder (given_before folder folder_after script replies limit full) told)
 
 -- the folder left stands for the map after the whole script
 pub record StandsForLast (folder : Folder) (script : List ℕ) (left : Folder) : Type 0 where
@@ -104,18 +104,18 @@ abbrev pub CutInRun : (Disk → Type 0) → Folder → List Parsed → List ℕ 
 CutInRun may_be folder given told c = BeforeBarrier folder may_be told c ⊎ CutPast folder given told c
 
 -- a limit is passed in the line in hand, behind these replies
-pub record Stops (folder : Folder) (script told told_after : List ℕ) (limit : ℕ) (since : (Cut → Type 0) → Type 0) : Type 0 where
+pub record Stops (folder folder_after : Folder) (script told told_after : List ℕ) (limit : ℕ) (since : (Cut → Type 0) → Type 0) : Type 0 where
   pub replies : List ℕ
-  pub passes : PassesIn folder script replies limit
+  pub passes : PassesIn folder folder_after script replies limit
   pub told_is : told_after ≡ told ++ replies
   pub cuts : since (CutOf passes.began (orders_of passes.history) told)
 
 -- at the run's opening or in a line
-pub record StopsRun (may_be : Disk → Type 0) (folder : Folder) (script told told_after : List ℕ) (limit : ℕ) (since : (Cut → Type 0) → Type 0) : Type 0 where
+pub record StopsRun (may_be : Disk → Type 0) (folder folder_after : Folder) (script told told_after : List ℕ) (limit : ℕ) (since : (Cut → Type 0) → Type 0) : Type 0 where
   pub replies : List ℕ
-  pub full : IsFull folder script replies limit
+  pub full : IsFull folder folder_after script replies limit
   pub told_is : told_after ≡ told ++ replies
-  pub cuts : since (CutInRun may_be folder (given_before folder script replies limit full) told)
+  pub cuts : since (CutInRun may_be folder (given_before folder folder_after script replies limit full) told)
 
 -- a cut while a line that ends a run is told
 pub record TellsError (may_be : Disk → Type 0) (told : List ℕ) (c : Cut) : Type 0 where

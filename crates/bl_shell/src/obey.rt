@@ -3,7 +3,7 @@
 ghost use Rattle.std.specs.Prelude.{◌≡◌, false, ℕ, ◌+◌, ◌≤◌, ◌<◌, ◌^◌, List, [], ◌∷◌, ◌++◌, length, map, IfErr, OnOk, OnErr, IsErrOf, Err, ◌⊎◌};
 ghost use Rattle.std.specs.List.{AllByRecursion};
 ghost use Rattle.std.specs.Option.{option_copied};
-ghost use Rattle.bl_site.specs.Disk.{Name};
+ghost use Rattle.bl_site.specs.Disk.{Name, folder_of};
 ghost use Rattle.bl_site.specs.Calls.{LeavesOnly};
 ghost use Rattle.bl_site.specs.Causes.{Rose};
 ghost use Rattle.bl_script.specs.Limits.{IsWithinLimits, IsCommand};
@@ -38,7 +38,9 @@ fn do_write<S: Site>(
     ensures ok { S.shows → OnOk result ((order : Parsed) → IsWrite order batch.now → Obeyed order store.old store.new (S.disk site.old) (S.disk site.new) (S.told site.old) (S.told site.new)) }
     ensures front { S.shows → IfErr result (λ e. IsSilent e → TellsFront ok_line (S.told site.old) (S.told site.new)) }
     ensures room { S.shows → OnErr result ((S.told site.new ≡ S.told site.old) ⊎ ((order : Parsed) → IsWrite order batch.now → HasRoom order store.old)) }
+    ensures obeyed { S.shows → IsErrOf result Stop.Tell → (order : Parsed) → IsWrite order batch.now → Obeyed order store.old store.new (S.disk site.old) (S.disk site.new) (S.told site.old) (S.told site.old ++ ok_line) }
     ensures full { S.shows → (limit : ℕ) → result ≡ Err (Stop.Full limit) → (limit ≡ store.old.last) × (2 ^ 56 ≤ limit + length batch.now) × (S.told site.new ≡ S.told site.old) }
+    ensures full_stays { S.shows → (limit : ℕ) → result ≡ Err (Stop.Full limit) → folder_of (S.disk site.new) ≡ folder_of (S.disk site.old) }
     ensures corrupt { (name : Name) (place : ℕ) → result ≡ Err (Stop.Corrupt name place) → ⊥ }
     ensures disk { IsErrOf result Stop.Disk → Rose (S.disk_faults site.old) (S.disk_faults site.new) }
     ensures tell { IsErrOf result Stop.Tell → Rose (S.tell_faults site.old) (S.tell_faults site.new) }
@@ -61,6 +63,7 @@ fn do_write<S: Site>(
 fn do_tell<S: Site>(store: &Store, reply: &[u8], site: &mut S) -> Result<(), Stop>
     ensures ok { S.shows → OnOk result ((order : Parsed) → IsTold order store.now.now reply.now → Obeyed order store.now store.now (S.disk site.old) (S.disk site.new) (S.told site.old) (S.told site.new)) }
     ensures front { S.shows → OnErr result (TellsFront reply.now (S.told site.old) (S.told site.new)) }
+    ensures obeyed { S.shows → (order : Parsed) → IsTold order store.now.now reply.now → Obeyed order store.now store.now (S.disk site.old) (S.disk site.new) (S.told site.old) (S.told site.old ++ reply.now) }
     ensures tell { IsErrOf result Stop.Tell → Rose (S.tell_faults site.old) (S.tell_faults site.new) }
     ensures others { S.shows → KeepsOthers (S.disk site.old) (S.disk site.new) }
     ensures causes { IfErr result (λ e. (e ≡ Stop.Tell) ⊎ (e ≡ Stop.OutOfMemory)) }
@@ -79,7 +82,9 @@ fn do_sync<S: Site>(store: &mut Store, site: &mut S) -> Result<(), Stop>
     ensures usable { OnOk result (store.new.broken ≡ false) }
     ensures ok { S.shows → OnOk result (Obeyed (Parsed.Go Command.Sync) store.old store.new (S.disk site.old) (S.disk site.new) (S.told site.old) (S.told site.new)) }
     ensures front { S.shows → IfErr result (λ e. IsSilent e → TellsFront (reply_of (Parsed.Go Command.Sync) store.old.now) (S.told site.old) (S.told site.new)) }
+    ensures obeyed { S.shows → IsErrOf result Stop.Tell → Obeyed (Parsed.Go Command.Sync) store.old store.new (S.disk site.old) (S.disk site.new) (S.told site.old) (S.told site.old ++ reply_of (Parsed.Go Command.Sync) store.old.now) }
     ensures full { S.shows → (limit : ℕ) → result ≡ Err (Stop.Full limit) → Passes (Parsed.Go Command.Sync) store.old.last store.old.log.number limit × (S.told site.new ≡ S.told site.old) }
+    ensures full_stays { S.shows → (limit : ℕ) → result ≡ Err (Stop.Full limit) → folder_of (S.disk site.new) ≡ folder_of (S.disk site.old) }
     ensures corrupt { S.shows → (name : Name) (place : ℕ) → result ≡ Err (Stop.Corrupt name place) → ⊥ }
     ensures disk { IsErrOf result Stop.Disk → Rose (S.disk_faults site.old) (S.disk_faults site.new) }
     ensures tell { IsErrOf result Stop.Tell → Rose (S.tell_faults site.old) (S.tell_faults site.new) }
@@ -106,7 +111,9 @@ fn do_reopen<S: Site>(store: &mut Store, alloc: Global, site: &mut S) -> Result<
     ensures ok { S.shows → OnOk result (Obeyed (Parsed.Go Command.Reopen) store.old store.new (S.disk site.old) (S.disk site.new) (S.told site.old) (S.told site.new)) }
     ensures front { S.shows → IfErr result (λ e. IsSilent e → TellsFront (reply_of (Parsed.Go Command.Reopen) store.old.now) (S.told site.old) (S.told site.new)) }
     ensures room { S.shows → OnErr result ((S.told site.new ≡ S.told site.old) ⊎ HasRoom (Parsed.Go Command.Reopen) store.old) }
+    ensures obeyed { S.shows → IsErrOf result Stop.Tell → Obeyed (Parsed.Go Command.Reopen) store.old store.new (S.disk site.old) (S.disk site.new) (S.told site.old) (S.told site.old ++ reply_of (Parsed.Go Command.Reopen) store.old.now) }
     ensures full { S.shows → (limit : ℕ) → result ≡ Err (Stop.Full limit) → Passes (Parsed.Go Command.Reopen) store.old.last store.old.log.number limit × (S.told site.new ≡ S.told site.old) }
+    ensures full_stays { S.shows → (limit : ℕ) → result ≡ Err (Stop.Full limit) → folder_of (S.disk site.new) ≡ folder_of (S.disk site.old) }
     ensures corrupt { S.shows → (name : Name) (place : ℕ) → result ≡ Err (Stop.Corrupt name place) → ⊥ }
     ensures disk { IsErrOf result Stop.Disk → Rose (S.disk_faults site.old) (S.disk_faults site.new) }
     ensures tell { IsErrOf result Stop.Tell → Rose (S.tell_faults site.old) (S.tell_faults site.new) }
@@ -142,7 +149,9 @@ fn do_command<S: Site>(
     ensures ok { S.shows → OnOk result (Obeyed (Parsed.Go command) store.old store.new (S.disk site.old) (S.disk site.new) (S.told site.old) (S.told site.new)) }
     ensures front { S.shows → IfErr result (λ e. IsSilent e → TellsFront (reply_of (Parsed.Go command) store.old.now) (S.told site.old) (S.told site.new)) }
     ensures room { S.shows → OnErr result ((S.told site.new ≡ S.told site.old) ⊎ HasRoom (Parsed.Go command) store.old) }
+    ensures obeyed { S.shows → IsErrOf result Stop.Tell → Obeyed (Parsed.Go command) store.old store.new (S.disk site.old) (S.disk site.new) (S.told site.old) (S.told site.old ++ reply_of (Parsed.Go command) store.old.now) }
     ensures full { S.shows → (limit : ℕ) → result ≡ Err (Stop.Full limit) → Passes (Parsed.Go command) store.old.last store.old.log.number limit × (S.told site.new ≡ S.told site.old) }
+    ensures full_stays { S.shows → (limit : ℕ) → result ≡ Err (Stop.Full limit) → folder_of (S.disk site.new) ≡ folder_of (S.disk site.old) }
     ensures corrupt { S.shows → (name : Name) (place : ℕ) → result ≡ Err (Stop.Corrupt name place) → ⊥ }
     ensures disk { IsErrOf result Stop.Disk → Rose (S.disk_faults site.old) (S.disk_faults site.new) }
     ensures tell { IsErrOf result Stop.Tell → Rose (S.tell_faults site.old) (S.tell_faults site.new) }
@@ -194,7 +203,9 @@ pub(crate) fn obey<S: Site>(
     ensures ok { S.shows → OnOk result (Obeyed order store.old store.new (S.disk site.old) (S.disk site.new) (S.told site.old) (S.told site.new)) }
     ensures front { S.shows → IfErr result (λ e. IsSilent e → TellsFront (reply_of order store.old.now) (S.told site.old) (S.told site.new)) }
     ensures room { S.shows → OnErr result ((S.told site.new ≡ S.told site.old) ⊎ HasRoom order store.old) }
+    ensures obeyed { S.shows → IsErrOf result Stop.Tell → Obeyed order store.old store.new (S.disk site.old) (S.disk site.new) (S.told site.old) (S.told site.old ++ reply_of order store.old.now) }
     ensures full { S.shows → (limit : ℕ) → result ≡ Err (Stop.Full limit) → Passes order store.old.last store.old.log.number limit × (S.told site.new ≡ S.told site.old) }
+    ensures full_stays { S.shows → (limit : ℕ) → result ≡ Err (Stop.Full limit) → folder_of (S.disk site.new) ≡ folder_of (S.disk site.old) }
     ensures corrupt { S.shows → (name : Name) (place : ℕ) → result ≡ Err (Stop.Corrupt name place) → ⊥ }
     ensures disk { IsErrOf result Stop.Disk → Rose (S.disk_faults site.old) (S.disk_faults site.new) }
     ensures tell { IsErrOf result Stop.Tell → Rose (S.tell_faults site.old) (S.tell_faults site.new) }

@@ -10,7 +10,7 @@ ghost use Rattle.bl_shell.specs.Carried.{Carried, Starts, Finished, Steady, NoLi
 ghost use Rattle.bl_shell.specs.Cuts.{IsKept, Stops};
 ghost use Rattle.bl_shell.specs.Machine.{orders, Began};
 ghost use Rattle.bl_shell.specs.Synced.{CutOf};
-ghost use Rattle.bl_shell.specs.Telling.{Begins, HasRun, HasTaken, HasBegun};
+ghost use Rattle.bl_shell.specs.Telling.{Begins, HasRun, HasTaken, HasBegun, HasFaltered};
 
 use crate::lines::LineInHand;
 use crate::obey::obey;
@@ -56,9 +56,12 @@ fn end_line<S: Site>(
     ensures front { S.shows → IfErr result (λ e. IsSilent e → (began : Began) (folder : Folder) (told script more : List ℕ) (start : S) → Begins folder began
         → Carried began folder told script store.old line.old (S.disk site.old) (S.told site.old) (Steady S.certain S.clock S.left_since start site.old)
         → HasBegun folder (script ++ 10 ∷ more) told (S.told site.new)) }
+    ensures faltered { S.shows → IsErrOf result Stop.Tell → (began : Began) (folder : Folder) (told script more : List ℕ) (start : S) → Begins folder began
+        → Carried began folder told script store.old line.old (S.disk site.old) (S.told site.old) (Steady S.certain S.clock S.left_since start site.old)
+        → HasFaltered folder (folder_of (S.disk site.new)) (script ++ 10 ∷ more) told (S.told site.new) }
     ensures full { S.shows → (limit : ℕ) → result ≡ Err (Stop.Full limit) → (began : Began) (folder : Folder) (told script more : List ℕ) (start : S) → Begins folder began
         → Carried began folder told script store.old line.old (S.disk site.old) (S.told site.old) (Steady S.certain S.clock S.left_since start site.old)
-        → Stops folder (script ++ 10 ∷ more) told (S.told site.new) limit (LeavesOnly S.clock S.left_since start site.new) }
+        → Stops folder (folder_of (S.disk site.new)) (script ++ 10 ∷ more) told (S.told site.new) limit (LeavesOnly S.clock S.left_since start site.new) }
     ensures cuts { S.shows → (began : Began) (folder : Folder) (told script more : List ℕ) (start : S)
         → Carried began folder told script store.old line.old (S.disk site.old) (S.told site.old) (Steady S.certain S.clock S.left_since start site.old)
         → LeavesOnly S.clock S.left_since start site.new (CutOf began (orders (script ++ 10 ∷ more)) told) }
@@ -69,6 +72,7 @@ fn end_line<S: Site>(
     ensures others { S.shows → KeepsOthers (S.disk site.old) (S.disk site.new) }
     ensures later { (S.disk_faults site.old ≤ S.disk_faults site.new) × (S.tell_faults site.old ≤ S.tell_faults site.new) }
 {
+    stores_stand();
     batches_make_the_map();
     let order = line.parse(alloc)?;
     obey(store, alloc, order, site)?;
@@ -94,9 +98,12 @@ fn feed<S: Site>(
     ensures front { S.shows → IfErr result (λ e. IsSilent e → (began : Began) (folder : Folder) (told script more : List ℕ) (start : S) → Begins folder began
         → Carried began folder told script store.old line.old (S.disk site.old) (S.told site.old) (Steady S.certain S.clock S.left_since start site.old)
         → HasBegun folder (script ++ (piece.now ++ more)) told (S.told site.new)) }
+    ensures faltered { S.shows → IsErrOf result Stop.Tell → (began : Began) (folder : Folder) (told script more : List ℕ) (start : S) → Begins folder began
+        → Carried began folder told script store.old line.old (S.disk site.old) (S.told site.old) (Steady S.certain S.clock S.left_since start site.old)
+        → HasFaltered folder (folder_of (S.disk site.new)) (script ++ (piece.now ++ more)) told (S.told site.new) }
     ensures full { S.shows → (limit : ℕ) → result ≡ Err (Stop.Full limit) → (began : Began) (folder : Folder) (told script more : List ℕ) (start : S) → Begins folder began
         → Carried began folder told script store.old line.old (S.disk site.old) (S.told site.old) (Steady S.certain S.clock S.left_since start site.old)
-        → Stops folder (script ++ (piece.now ++ more)) told (S.told site.new) limit (LeavesOnly S.clock S.left_since start site.new) }
+        → Stops folder (folder_of (S.disk site.new)) (script ++ (piece.now ++ more)) told (S.told site.new) limit (LeavesOnly S.clock S.left_since start site.new) }
     ensures cuts { S.shows → (began : Began) (folder : Folder) (told script more : List ℕ) (start : S)
         → Carried began folder told script store.old line.old (S.disk site.old) (S.told site.old) (Steady S.certain S.clock S.left_since start site.old)
         → LeavesOnly S.clock S.left_since start site.new (CutOf began (orders (script ++ (piece.now ++ more))) told) }
@@ -134,9 +141,12 @@ fn end_script<S: Site>(
     ensures front { S.shows → IfErr result (λ e. IsSilent e → (began : Began) (folder : Folder) (told script : List ℕ) (start : S) → Begins folder began
         → Carried began folder told script store.old line.old (S.disk site.old) (S.told site.old) (Steady S.certain S.clock S.left_since start site.old)
         → HasBegun folder script told (S.told site.new)) }
+    ensures faltered { S.shows → IsErrOf result Stop.Tell → (began : Began) (folder : Folder) (told script : List ℕ) (start : S) → Begins folder began
+        → Carried began folder told script store.old line.old (S.disk site.old) (S.told site.old) (Steady S.certain S.clock S.left_since start site.old)
+        → HasFaltered folder (folder_of (S.disk site.new)) script told (S.told site.new) }
     ensures full { S.shows → (limit : ℕ) → result ≡ Err (Stop.Full limit) → (began : Began) (folder : Folder) (told script : List ℕ) (start : S) → Begins folder began
         → Carried began folder told script store.old line.old (S.disk site.old) (S.told site.old) (Steady S.certain S.clock S.left_since start site.old)
-        → Stops folder script told (S.told site.new) limit (LeavesOnly S.clock S.left_since start site.new) }
+        → Stops folder (folder_of (S.disk site.new)) script told (S.told site.new) limit (LeavesOnly S.clock S.left_since start site.new) }
     ensures cuts { S.shows → (began : Began) (folder : Folder) (told script : List ℕ) (start : S)
         → Carried began folder told script store.old line.old (S.disk site.old) (S.told site.old) (Steady S.certain S.clock S.left_since start site.old)
         → LeavesOnly S.clock S.left_since start site.new (CutOf began (orders script) told) }
@@ -172,9 +182,12 @@ fn finish<S: Site>(
     ensures front { S.shows → IfErr result (λ e. IsSilent e → (began : Began) (folder : Folder) (told script : List ℕ) (start : S) → Begins folder began
         → Carried began folder told script store.old line.old (S.disk site.old) (S.told site.old) (Steady S.certain S.clock S.left_since start site.old)
         → HasBegun folder script told (S.told site.new)) }
+    ensures faltered { S.shows → IsErrOf result Stop.Tell → (began : Began) (folder : Folder) (told script : List ℕ) (start : S) → Begins folder began
+        → Carried began folder told script store.old line.old (S.disk site.old) (S.told site.old) (Steady S.certain S.clock S.left_since start site.old)
+        → HasFaltered folder (folder_of (S.disk site.new)) script told (S.told site.new) }
     ensures full { S.shows → (limit : ℕ) → result ≡ Err (Stop.Full limit) → (began : Began) (folder : Folder) (told script : List ℕ) (start : S) → Begins folder began
         → Carried began folder told script store.old line.old (S.disk site.old) (S.told site.old) (Steady S.certain S.clock S.left_since start site.old)
-        → Stops folder script told (S.told site.new) limit (LeavesOnly S.clock S.left_since start site.new) }
+        → Stops folder (folder_of (S.disk site.new)) script told (S.told site.new) limit (LeavesOnly S.clock S.left_since start site.new) }
     ensures cuts { S.shows → (began : Began) (folder : Folder) (told script : List ℕ) (start : S)
         → Carried began folder told script store.old line.old (S.disk site.old) (S.told site.old) (Steady S.certain S.clock S.left_since start site.old)
         → LeavesOnly S.clock S.left_since start site.new (CutOf began (orders script) told) }
@@ -214,9 +227,11 @@ pub(crate) fn serve<R: Source, S: Site>(
     ensures front { S.shows → R.shows → IfErr result (λ e. IsSilent e → (began : Began) (folder : Folder) → Begins folder began → Starts began folder store.old (S.disk site.old)
         → HasBegun folder (R.left script.old) (S.told site.old) (S.told site.new)) }
     ensures taken { S.shows → R.shows → IfErr result (λ e. IsReading e → (began : Began) (folder : Folder) → Begins folder began → Starts began folder store.old (S.disk site.old)
-        → (taken : List ℕ) × (taken ++ R.left script.new ≡ R.left script.old) × HasTaken folder taken (S.told site.old) (S.told site.new)) }
+        → (taken : List ℕ) × (taken ++ R.left script.new ≡ R.left script.old) × (e ≡ Stop.Long → 2 ^ 40 < length taken) × HasTaken folder (folder_of (S.disk site.new)) taken (S.told site.old) (S.told site.new)) }
+    ensures faltered { S.shows → R.shows → IsErrOf result Stop.Tell → (began : Began) (folder : Folder) → Begins folder began → Starts began folder store.old (S.disk site.old)
+        → HasFaltered folder (folder_of (S.disk site.new)) (R.left script.old) (S.told site.old) (S.told site.new) }
     ensures full { S.shows → R.shows → (limit : ℕ) → result ≡ Err (Stop.Full limit) → (began : Began) (folder : Folder) → Begins folder began → Starts began folder store.old (S.disk site.old)
-        → Stops folder (R.left script.old) (S.told site.old) (S.told site.new) limit (LeavesOnly S.clock S.left_since site.old site.new) }
+        → Stops folder (folder_of (S.disk site.new)) (R.left script.old) (S.told site.old) (S.told site.new) limit (LeavesOnly S.clock S.left_since site.old site.new) }
     ensures cuts { S.shows → R.shows → (began : Began) (folder : Folder) → Starts began folder store.old (S.disk site.old)
         → LeavesOnly S.clock S.left_since site.old site.new (CutOf began (orders (R.left script.old)) (S.told site.old)) }
     ensures corrupt { S.shows → (name : Name) (place : ℕ) → result ≡ Err (Stop.Corrupt name place) → ⊥ }
@@ -230,6 +245,7 @@ pub(crate) fn serve<R: Source, S: Site>(
     ensures later { S.tell_faults site.old ≤ S.tell_faults site.new }
 {
     cuts_stand();
+    stores_stand();
     batches_make_the_map();
     let mut line = LineInHand::new(alloc);
     let mut taken: u64 = 0;

@@ -21,7 +21,7 @@ invariant-reads g l =
       -- some bytes of the script were taken, and all is as the machine has it after them
       eaten : site.shows → (front : List ℕ) × (((began : Began) (folder : Folder) → Starts began folder l.fn.store (site.disk l.fn.site)
           → Carried began folder (site.told l.fn.site) front l.store l.line (site.disk l.site) (site.told l.site) (Steady site.certain site.clock site.left_since l.fn.site l.site))
-          × (source.shows → front ++ source.left l.script ≡ source.left l.fn.script));
+          × (source.shows → front ++ source.left l.script ≡ source.left l.fn.script) × (length front ≡ l.taken));
     }
 
 abbrev pub decreases-reads : goal.decreases-reads
