@@ -1,3 +1,4 @@
+pub mod Basics
 pub mod ChainLemmas
 pub mod CrcLemmas
 pub mod ReadingLemmas

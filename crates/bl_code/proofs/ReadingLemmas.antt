@@ -197,7 +197,7 @@ no_spelling : (n : ℕ) → varint 0 n ≡ []
 unfolding varint
 no_spelling n = refl
 
-spelling_size : (k n : ℕ) → length (varint k n) ≤ k
+pub spelling_size : (k n : ℕ) → length (varint k n) ≤ k
 spelling_size zero n = rw (no_spelling n) (omega arith)
 spelling_size (suc k) n = elim (cases_lt n 128) [
   | inl small ↦ rw (spelled_last k n small) (omega arith)

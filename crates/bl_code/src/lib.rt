@@ -4,6 +4,7 @@
 mod crc;
 mod error;
 mod laws;
+mod limits;
 mod octets;
 mod order;
 mod put;
@@ -19,6 +20,7 @@ pub use laws::{
     blob_indexes_are_unique, pieces_join, readings_are_exact, unmask_undoes_mask,
     varints_are_spelled, what_is_put_is_taken_again,
 };
+pub use limits::{MAX_KEY, MAX_VALUE};
 pub use octets::Octets;
 pub use order::key_order;
 pub use put::{put_fixed16, put_fixed32, put_fixed64, put_slice, put_varint32, put_varint64};

@@ -1,7 +1,15 @@
 mod BatchGrammar
 mod BatchReading
+mod FirstOfStripe
+pub mod ItemLemmas
+mod KeptLemmas
 mod KeyLemmas
+pub mod LaterLemmas
+mod LatestLemmas
+pub mod ListLemmas
+pub mod OrderLemmas
 mod Parts
 mod RecordLemmas
 mod RevisionLemmas
 mod Rows
+mod WrittenLemmas

@@ -1,8 +1,11 @@
 pub mod Batches
 pub mod Entries
+pub mod Items
 pub mod Kept
 pub mod Keys
+pub mod Latest
 pub mod Reading
 pub mod Records
 pub mod Revisions
 pub mod Runs
+pub mod Written

@@ -3,6 +3,7 @@ use Rattle.std.proofs.Common.{◌≡◌, ◌⊎◌, inl, inr, ℕ, Bool, true, L
 use Rattle.bl_site.specs.Disk.{Folder}
 use Rattle.bl_names.specs.Names.{manifest_name}
 use Rattle.bl_log.specs.Log.{records, placed_records}
+use Rattle.bl_log.specs.declared.cause.EndCause.{EndCause}
 use Rattle.bl_records.specs.FileReading.{FileReading, HasFound, FindsNext, EndsBehind}
 use Rattle.bl_edit.specs.Reading.{no_field}
 use Rattle.bl_edit.specs.declared.edit.Edit.{Edit}
@@ -52,10 +53,10 @@ all_edits : ((bytes : List ℕ) → map (λ (found : List ℕ × ℕ). found.0) 
     → found ≡ placed_records bytes → edits_of (payloads found) ≡ Some edits → edits_of (records bytes) ≡ Some edits
 all_edits law found bytes edits all are = ap edits_of (sym (law bytes) ∙ ap payloads (sym all)) ∙ are
 
-pub ended : ((bytes : List ℕ) → map (λ (found : List ℕ × ℕ). found.0) (placed_records bytes) ≡ records bytes) → (folder : Folder) (number : ℕ) (reader : FileReading) (base : Listing) (known : Edit) (standing : Standing) (place : ℕ)
-    → ((found : List (List ℕ × ℕ)) → HasFound (folder (manifest_name number)) found reader → EndsBehind (folder (manifest_name number)) found place) → standing_of known ≡ Some standing
+pub ended : ((bytes : List ℕ) → map (λ (found : List ℕ × ℕ). found.0) (placed_records bytes) ≡ records bytes) → (folder : Folder) (number : ℕ) (reader : FileReading) (base : Listing) (known : Edit) (standing : Standing) (place : ℕ) (cause : EndCause)
+    → ((found : List (List ℕ × ℕ)) → HasFound (folder (manifest_name number)) found reader → EndsBehind (folder (manifest_name number)) found place cause) → standing_of known ≡ Some standing
     → Progress (folder (manifest_name number)) reader base known → HasRestored folder number (record { version = base; standing = standing })
-ended law folder number reader base known standing place ends all p =
+ended law folder number reader base known standing place cause ends all p =
     let end = ends p.found p.has in
     record {
       bytes = end.bytes;
@@ -64,10 +65,10 @@ ended law folder number reader base known standing place ends all p =
     }
 
 -- it ended before every field was known
-pub ended_short : ((bytes : List ℕ) → map (λ (found : List ℕ × ℕ). found.0) (placed_records bytes) ≡ records bytes) → (folder : Folder) (number : ℕ) (reader : FileReading) (base : Listing) (known : Edit) (place at : ℕ)
-    → ((found : List (List ℕ × ℕ)) → HasFound (folder (manifest_name number)) found reader → EndsBehind (folder (manifest_name number)) found place) → standing_of known ≡ None → at ≡ place
+pub ended_short : ((bytes : List ℕ) → map (λ (found : List ℕ × ℕ). found.0) (placed_records bytes) ≡ records bytes) → (folder : Folder) (number : ℕ) (reader : FileReading) (base : Listing) (known : Edit) (place : ℕ) (cause : EndCause) (at : ℕ)
+    → ((found : List (List ℕ × ℕ)) → HasFound (folder (manifest_name number)) found reader → EndsBehind (folder (manifest_name number)) found place cause) → standing_of known ≡ None → at ≡ place
     → Progress (folder (manifest_name number)) reader base known → IsDamaged folder number at
-ended_short law folder number reader base known place at ends lacks is p =
+ended_short law folder number reader base known place cause at ends lacks is p =
     let end = ends p.found p.has in
     inr (
       end.bytes,

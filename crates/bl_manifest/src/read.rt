@@ -128,7 +128,7 @@ pub fn read_all<S: Site>(alloc: Global, site: &mut S, number: u64) -> Result<Res
                     return Err(corrupt(alloc, records.name(), records.place()));
                 }
             }
-            NextRecord::End(place) => {
+            NextRecord::End(place, _) => {
                 let Some(standing) = standing_of(&known) else {
                     return Err(corrupt(alloc, records.name(), place));
                 };

@@ -1,28 +1,16 @@
 -- Lists of which a test holds up to a place.
-use Rattle.std.proofs.Common.{◌≡◌, ℕ, zero, suc, ◌+◌, ◌<◌, ◌≤◌, Bool, true, false, cond, List, [], ◌∷◌, ◌++◌, length, take, drop, get_or, refl, sym, ◌∙◌, ap, subst, arith}
-use Rattle.std.specs.Prelude.{find, filter, not, slice_get, Contains, Some, None}
+use Rattle.std.proofs.Common.{◌≡◌, ℕ, zero, suc, ◌+◌, ◌≤◌, Bool, true, false, cond, List, [], ◌∷◌, ◌++◌, length, take, drop, refl, sym, ◌∙◌, ap, arith}
+use Rattle.std.specs.Prelude.{find, filter, not, slice_get, Some, None}
 use Rattle.std.specs.List.{AllByRecursion, prefix_len}
 use Rattle.std.specs.List.Sorted.{IsPartitionedBy, IsPartitionPoint}
 use Rattle.std.proofs.lemmas.Bool.{false≢true}
 use Rattle.std.proofs.lemmas.List.Sums.{prefix_len_is}
+use Rattle.bl_entry.proofs.ListLemmas.{all_at, by_test}
 
 -- whatever comes behind an item that fails fails too
 unfoldable pub IsCut : {A : Type 0} → (A → Bool) → List A → Type 0
 IsCut p [] = Unit {0}
 IsCut p (x ∷ xs) = (p x ≡ false → AllByRecursion (λ y. p y ≡ false) xs) × IsCut p xs
-
-pub all_at : {A : Type 0} (P : A → Type 0) (xs : List A) (i : ℕ) (d : A) → AllByRecursion P xs → i < length xs → P (get_or xs i d)
-all_at P [] i d h lt = absurd (omega arith)
-all_at P (x ∷ xs) zero d h lt = h.0
-all_at P (x ∷ xs) (suc i) d h lt = all_at P xs i d h.1 (omega arith)
-
-pub all_from : {A : Type 0} (P Q : A → Type 0) (xs : List A) → ((x : A) → P x → Q x) → AllByRecursion P xs → AllByRecursion Q xs
-all_from P Q [] f h = tt
-all_from P Q (x ∷ xs) f h = (f x h.0, all_from P Q xs f h.1)
-
-pub all_append : {A : Type 0} (P : A → Type 0) (xs ys : List A) → AllByRecursion P xs → AllByRecursion P ys → AllByRecursion P (xs ++ ys)
-all_append P [] ys h k = k
-all_append P (x ∷ xs) ys h k = (h.0, all_append P xs ys h.1 k)
 
 pub all_front : {A : Type 0} (P : A → Type 0) (xs ys : List A) → AllByRecursion P (xs ++ ys) → AllByRecursion P xs
 all_front P [] ys h = tt
@@ -31,11 +19,6 @@ all_front P (x ∷ xs) ys h = (h.0, all_front P xs ys h.1)
 pub all_back : {A : Type 0} (P : A → Type 0) (xs ys : List A) → AllByRecursion P (xs ++ ys) → AllByRecursion P ys
 all_back P [] ys h = h
 all_back P (x ∷ xs) ys h = all_back P xs ys h.1
-
--- one way or the other
-pub by_test : {C : Type 0} (b : Bool) → (b ≡ true → C) → (b ≡ false → C) → C
-by_test true f g = f refl
-by_test false f g = g refl
 
 pub cut_parted : {A : Type 0} (p : A → Bool) (xs : List A) → IsCut p xs → IsPartitionedBy p xs
 unfolding IsCut
@@ -132,24 +115,3 @@ filter_back p q (x ∷ xs) h k =
     (λ e.
     filter_all q (x ∷ xs) (k.0 ∙ ap not e, all_other p q xs k.1 (h.0 e))
     ∙ sym (ap (λ b. drop (cond b (1 + prefix_len p xs) 0) (x ∷ xs)) e))
-
-pub find_holds : {A : Type 0} (P : A → Type 0) (p : A → Bool) (xs : List A) (y : A) → AllByRecursion P xs → find p xs ≡ Some y → P y
-find_holds P p [] y h e = absurd cc
-find_holds {A = A} P p (x ∷ xs) y h e =
-    by_test (p x)
-    (λ t. let same : Some x ≡ Some y = sym (ap (λ b. cond b (Some x) (find p xs)) t) ∙ e in let is : x ≡ y = cc in subst P is h.0)
-    (λ t. find_holds P p xs y h.1 (sym (ap (λ b. cond b (Some x) (find p xs)) t) ∙ e))
-
-pub find_passes : {A : Type 0} (p : A → Bool) (xs : List A) (y : A) → find p xs ≡ Some y → p y ≡ true
-find_passes p [] y e = absurd cc
-find_passes {A = A} p (x ∷ xs) y e =
-    by_test (p x)
-    (λ t. let same : Some x ≡ Some y = sym (ap (λ b. cond b (Some x) (find p xs)) t) ∙ e in let is : x ≡ y = cc in sym (ap p is) ∙ t)
-    (λ t. find_passes p xs y (sym (ap (λ b. cond b (Some x) (find p xs)) t) ∙ e))
-
-pub find_there : {A : Type 0} (p : A → Bool) (xs : List A) (y : A) → find p xs ≡ Some y → Contains xs y
-find_there p [] y e = absurd cc
-find_there {A = A} p (x ∷ xs) y e =
-    by_test (p x)
-    (λ t. let same : Some x ≡ Some y = sym (ap (λ b. cond b (Some x) (find p xs)) t) ∙ e in let is : x ≡ y = cc in (0, omega arith, is))
-    (λ t. let (k, lt, is) = find_there p xs y (sym (ap (λ b. cond b (Some x) (find p xs)) t) ∙ e) in (suc k, omega arith, is))

@@ -1,120 +1,18 @@
--- What the latest entry of a user key is, and what it tells.
-use Rattle.std.proofs.Common.{◌≡◌, ℕ, ◌<◌, ◌≤◌, Bool, true, false, cond, nat_lt, List, [], ◌∷◌, ◌++◌, map, refl, sym, ◌∙◌, ap, subst, arith}
-use Rattle.std.specs.Prelude.{◌&&◌, nat_le, Contains, slice_get, Option, Some, None, option_and_then}
-use Rattle.std.specs.Cmp.{tied_back, tied_itself}
-use Rattle.std.specs.Cmp.Lexicographic.{nat_list_cmp_total}
-use Rattle.std.specs.List.{AllByRecursion}
+-- The first entry of a memory table, and the one behind another.
+use Rattle.std.proofs.Common.{◌≡◌, ℕ, zero, suc, ◌≤◌, true, false, cond, List, [], ◌∷◌, ◌++◌, length, refl, ◌∙◌, ap, subst, arith, ◌⊎◌, inl, inr}
+use Rattle.std.specs.Prelude.{slice_get, Some}
+use Rattle.std.specs.Cmp.{tied_itself}
 use Rattle.std.specs.List.Sorted.{IsStrictlySortedBy}
-use Rattle.std.specs.Option.{option_map}
-use Rattle.std.specs.Ordering.{nat_cmp, is_gt, is_lt, ordering_reverse, ordering_then}
-use Rattle.std.specs.declared.cmp.Ordering.TheVariants.{Less, Equal}
-use Rattle.std.proofs.lemmas.Bool.{false≢true}
-use Rattle.bl_code.specs.Order.{bytes_cmp, same_bytes}
+use Rattle.std.specs.Ordering.{nat_cmp, is_ge, is_gt, ordering_reverse, ordering_then}
+use Rattle.std.specs.declared.cmp.Ordering.TheVariants.{Less, Equal, Greater}
+use Rattle.bl_code.specs.Order.{bytes_cmp}
 use Rattle.bl_entry.specs.declared.key.Entry.{Entry}
-use Rattle.bl_entry.specs.Entries.{IsAscending, stands_before}
-use Rattle.bl_entry.specs.Keys.{Key, key_cmp, key_number, kind_number}
-use Rattle.bl_entry.specs.Revisions.{later, newest, seen}
-use Rattle.bl_memtab.specs.Laws.{AfterIsNext, LatestIsGreatest, LatestIsTheValue, revision_of}
-use Rattle.bl_memtab.specs.Tables.{after, is_reached, is_seen, latest}
-use Rattle.bl_memtab.proofs.Cuts.{all_at, by_test, find_holds, find_passes, find_there}
-use Rattle.bl_memtab.proofs.Orders.{key_total}
-use Rattle.bl_memtab.proofs.PlaceLemmas.{AreBehind, eq_of, kind_small, nat_cmp_lt}
-
-same_of : (key : List ℕ) (seq : ℕ) (e : Entry) → is_seen key seq e ≡ true → bytes_cmp e.key.user key ≡ Equal
-same_of key seq e h = eq_of (bytes_cmp e.key.user key) (first (same_bytes e.key.user key) (nat_le e.key.seq seq) h)
-  where
-    first : (a b : Bool) → (a && b) ≡ true → a ≡ true
-    first true b h = refl
-    first false b h = h
-
--- the second stands in no later place than the first
-abbrev IsNoLater : Entry → Entry → Type 0
-IsNoLater x y = (y.key.seq ≤ x.key.seq) × (stands_before y x ≡ false)
-
-no_later : (key : List ℕ) (seq : ℕ) (x y : Entry) → key_cmp x.key y.key ≡ Less → is_seen key seq x ≡ true → is_seen key seq y ≡ true → IsNoLater x y
-no_later key seq x y lt sx sy =
-    let users : bytes_cmp x.key.user y.key.user ≡ Equal = nat_list_cmp_total.congr x.key.user key y.key.user (same_of key seq x sx) ∙ tied_back nat_list_cmp_total y.key.user key (same_of key seq y sy) in
-    let less : nat_cmp (key_number y.key) (key_number x.key) ≡ Less = sym (ap (λ o. ordering_then o (nat_cmp (key_number y.key) (key_number x.key))) users) ∙ lt in
-    let number : key_number y.key < key_number x.key = nat_cmp_lt (key_number y.key) (key_number x.key) (ap is_lt less) in
-    let small_x : kind_number x.key.kind < 256 = kind_small x.key.kind in
-    let small_y : kind_number y.key.kind < 256 = kind_small y.key.kind in
-    (omega arith, ap is_lt (key_total.antisymm y.key x.key ∙ ap ordering_reverse lt))
-
-abbrev AreNoLater : List ℕ → ℕ → Entry → List Entry → Type 0
-AreNoLater key seq x es = AllByRecursion (λ y. is_seen key seq y ≡ true → IsNoLater x y) es
-
-all_no_later : (key : List ℕ) (seq : ℕ) (x : Entry) (es : List Entry) → AreBehind x.key es → is_seen key seq x ≡ true → AreNoLater key seq x es
-all_no_later key seq x [] h sx = tt
-all_no_later key seq x (y ∷ es) h sx = ((λ sy. no_later key seq x y h.0 sx sy), all_no_later key seq x es h.1 sx)
-
-found_first : (key : List ℕ) (seq : ℕ) (x : Entry) (es : List Entry) (e : Entry) → is_seen key seq x ≡ true → latest key seq (x ∷ es) ≡ Some e → x ≡ e
-found_first key seq x es e h f =
-    let same : Some x ≡ Some e = sym (ap (λ b. cond b (Some x) (latest key seq es)) h) ∙ f in
-    cc
-
-found_later : (key : List ℕ) (seq : ℕ) (x : Entry) (es : List Entry) (e : Entry) → is_seen key seq x ≡ false → latest key seq (x ∷ es) ≡ Some e → latest key seq es ≡ Some e
-found_later key seq x es e h f = sym (ap (λ b. cond b (Some x) (latest key seq es)) h) ∙ f
-
-all_of : (key : List ℕ) (seq : ℕ) (es : List Entry) (e : Entry) → IsAscending es → latest key seq es ≡ Some e → AreNoLater key seq e es
-unfolding IsStrictlySortedBy
-all_of key seq [] e up f = tt
-all_of key seq (x ∷ es) e up f =
-    by_test (is_seen key seq x)
-    (λ h.
-    let itself : IsNoLater x x = (omega arith, ap is_lt (tied_itself key_total x.key)) in
-    let all : AreNoLater key seq x (x ∷ es) = ((λ _. itself), all_no_later key seq x es up.0 h) in
-    subst (λ y. AreNoLater key seq y (x ∷ es)) (found_first key seq x es e h f) all)
-    (λ h. ((λ t. absurd (false≢true (sym h ∙ t))), all_of key seq es e up.1 (found_later key seq x es e h f)))
-
-pub latest_is_greatest : LatestIsGreatest
-latest_is_greatest es key seq e up f =
-    let all : AreNoLater key seq e es = all_of key seq es e up f in
-    let P : Entry → Type 0 = λ y. is_seen key seq y ≡ true → IsNoLater e y in
-    let at = λ (other : Entry) (there : Contains es other). subst P there.2 (all_at P es there.0 other all there.1) in
-    record {
-      there = find_there (is_seen key seq) es e f;
-      seen = find_passes (is_seen key seq) es e f;
-      greatest = λ other there h. (at other there h).0;
-      first = λ other there h. (at other there h).1;
-    }
-
--- ---- the value of a key
-
-seen_skips : (key : List ℕ) (seq : ℕ) (x : Entry) (es : List Entry) (b : Bool) → is_seen key seq x ≡ b
-    → seen seq key (map revision_of (x ∷ es)) ≡ cond b (revision_of x ∷ seen seq key (map revision_of es)) (seen seq key (map revision_of es))
-seen_skips key seq x es b h = ap (λ t. cond t (revision_of x ∷ seen seq key (map revision_of es)) (seen seq key (map revision_of es))) h
-
-not_lt : (a b : ℕ) → b ≤ a → nat_lt a b ≡ false
-not_lt a b le = grind arith
-
-keeps_first : (key : List ℕ) (seq : ℕ) (x : Entry) (es : List Entry) (found : Option Entry) → latest key seq es ≡ found → AreNoLater key seq x es
-    → later (revision_of x) (option_map revision_of found) ≡ revision_of x
-keeps_first key seq x es None f h = refl
-keeps_first key seq x es (Some y) f h =
-    let P : Entry → Type 0 = λ z. is_seen key seq z ≡ true → IsNoLater x z in
-    let no_later : IsNoLater x y = find_holds P (is_seen key seq) es y h f (find_passes (is_seen key seq) es y f) in
-    ap (λ b. cond b (revision_of y) (revision_of x)) (not_lt x.key.seq y.key.seq no_later.0)
-
-newest_is : (key : List ℕ) (seq : ℕ) (es : List Entry) → IsAscending es → newest (seen seq key (map revision_of es)) ≡ option_map revision_of (latest key seq es)
-unfolding IsStrictlySortedBy
-newest_is key seq [] up = refl
-newest_is key seq (x ∷ es) up =
-    by_test (is_seen key seq x)
-    (λ h.
-    ap newest (seen_skips key seq x es true h)
-    ∙ ap (λ o. Some (later (revision_of x) o)) (newest_is key seq es up.1)
-    ∙ ap Some (keeps_first key seq x es (latest key seq es) refl (all_no_later key seq x es up.0 h))
-    ∙ sym (ap (λ b. option_map revision_of (cond b (Some x) (latest key seq es))) h))
-    (λ h.
-    ap newest (seen_skips key seq x es false h) ∙ newest_is key seq es up.1
-    ∙ sym (ap (λ b. option_map revision_of (cond b (Some x) (latest key seq es))) h))
-
-put_of_found : (found : Option Entry) → option_and_then (λ r. r.put) (option_map revision_of found) ≡ option_and_then (λ e. (revision_of e).put) found
-put_of_found None = refl
-put_of_found (Some e) = refl
-
-pub latest_is_the_value : LatestIsTheValue
-latest_is_the_value es key seq up = ap (option_and_then (λ r. r.put)) (newest_is key seq es up) ∙ put_of_found (latest key seq es)
+use Rattle.bl_entry.specs.declared.key.Kind.{Kind}
+use Rattle.bl_entry.specs.declared.key.Kind.TheVariants.{Deletion, Value, BlobRef}
+use Rattle.bl_entry.specs.Keys.{IsKey, Key, key_cmp, key_number, kind_number}
+use Rattle.bl_entry.proofs.OrderLemmas.{AreBehind, key_total}
+use Rattle.bl_memtab.specs.Laws.{AfterIsAtTheNextPlace, AfterIsNext, FirstIsFromLeast, least_key}
+use Rattle.bl_memtab.specs.Tables.{after, is_reached}
 
 -- ---- the entry behind another
 
@@ -134,3 +32,53 @@ pub after_is_next : AfterIsNext
 unfolding IsStrictlySortedBy
 after_is_next [] back e up = skips e.key e back (ap is_gt (tied_itself key_total e.key)) ∙ first_behind e back up.0
 after_is_next (x ∷ front) back e up = skips e.key x (front ++ e ∷ back) (ap is_gt (behind_at x.key front back e up.0)) ∙ after_is_next front back e up.1
+
+some_one : {A : Type 0} (x y : A) → Some x ≡ Some y → x ≡ y
+some_one x y e = cc
+
+at_behind : (k : Key) (es : List Entry) (place : ℕ) (e : Entry) → AreBehind k es → slice_get es place ≡ Some e → key_cmp k e.key ≡ Less
+at_behind k [] place e h s = absurd cc
+at_behind k (x ∷ es) zero e h s = subst (λ y. key_cmp k y.key ≡ Less) (some_one x e s) h.0
+at_behind k (x ∷ es) (suc place) e h s = at_behind k es place e h.1 s
+
+pub after_is_at_the_next_place : AfterIsAtTheNextPlace
+unfolding IsStrictlySortedBy
+after_is_at_the_next_place [] place e up s = absurd cc
+after_is_at_the_next_place (x ∷ es) zero e up s =
+    let is : x ≡ e = some_one x e s in
+    let behind : AreBehind e.key es = subst (λ y. AreBehind y.key es) is up.0 in
+    skips e.key x es (ap (λ y. is_gt (key_cmp y.key e.key)) is ∙ ap is_gt (tied_itself key_total e.key)) ∙ first_behind e es behind
+after_is_at_the_next_place (x ∷ es) (suc place) e up s =
+    skips e.key x es (ap is_gt (at_behind x.key es place e up.0 s)) ∙ after_is_at_the_next_place es place e up.1 s
+
+-- ---- the first entry
+
+behind_zero : (b : ℕ) → nat_cmp (suc b) 0 ≡ Greater
+behind_zero b = grind arith
+
+user_from : (user : List ℕ) → 1 ≤ length user → (bytes_cmp user (0 ∷ []) ≡ Greater) ⊎ (bytes_cmp user (0 ∷ []) ≡ Equal)
+user_from [] h = absurd (omega (arith, h))
+user_from (zero ∷ []) h = inr refl
+user_from (zero ∷ c ∷ cs) h = inl refl
+user_from (suc b ∷ bs) h = inl (ap (λ o. ordering_then o (bytes_cmp bs [])) (behind_zero b))
+
+kind_last : (k : Kind) → kind_number k ≤ 17
+kind_last Deletion = omega arith
+kind_last Value = omega arith
+kind_last BlobRef = omega arith
+
+number_from : (a b : ℕ) → b ≤ a → is_ge (nat_cmp a b) ≡ true
+number_from a b le = grind arith
+
+least_reached : (e : Entry) → IsKey e.key → is_reached least_key false e ≡ true
+least_reached e h = elim (user_from e.key.user h.some) [
+  | inl g ↦ ap (λ o. is_ge (ordering_then o (nat_cmp (key_number least_key) (key_number e.key)))) g
+  | inr q ↦
+      let small : kind_number e.key.kind ≤ 17 = kind_last e.key.kind in
+      ap (λ o. is_ge (ordering_then o (nat_cmp (key_number least_key) (key_number e.key)))) q
+      ∙ number_from (key_number least_key) (key_number e.key) (omega (arith, h.seq))
+]
+
+pub first_is_from_least : FirstIsFromLeast
+first_is_from_least [] h = refl
+first_is_from_least (e ∷ es) h = ap (λ b. cond b (Some e) (after least_key false es)) (least_reached e h.0)

@@ -1,4 +1,6 @@
+mod BatchLemmas
 mod Cuts
+mod FilledLemmas
 mod LawLemmas
 mod Orders
 mod PlaceLemmas

@@ -27,9 +27,6 @@ place_of k = (k.user, key_number k)
 pub place_total : IsTotalOrder place_cmp
 place_total = search (comparing, rules)
 
-pub key_total : IsTotalOrder key_cmp
-key_total = search (comparing, rules)
-
 -- what stands behind an item that is not before a place is not before it
 later_lt : (x y p : Place) → place_cmp x y ≡ Less → is_lt (place_cmp x p) ≡ false → is_lt (place_cmp y p) ≡ false
 later_lt x y p lt f = by (place_cmp y p) refl

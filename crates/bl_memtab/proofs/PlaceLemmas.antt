@@ -1,5 +1,5 @@
 -- An entry in its place, and the first entry from a place on.
-use Rattle.std.proofs.Common.{◌≡◌, ◌≢◌, ℕ, zero, suc, ◌+◌, ◌*◌, ◌<◌, ◌≤◌, Bool, true, false, cond, nat_lt, List, [], ◌∷◌, ◌++◌, take, drop, map, refl, sym, ◌∙◌, ap, subst, arith}
+use Rattle.std.proofs.Common.{◌≡◌, ◌≢◌, ℕ, zero, suc, ◌+◌, ◌*◌, ◌<◌, ◌≤◌, Bool, true, false, cond, List, [], ◌∷◌, ◌++◌, take, drop, map, refl, sym, ◌∙◌, ap, subst, arith}
 use Rattle.std.specs.Prelude.{find, filter, not, ◌&&◌, nat_le, Some, None, option_and_then}
 use Rattle.std.specs.Cmp.{alike_right}
 use Rattle.std.specs.Cmp.Lexicographic.{nat_list_cmp_total}
@@ -8,17 +8,18 @@ use Rattle.std.specs.List.Sorted.{IsStrictlySortedBy}
 use Rattle.std.specs.Ordering.{nat_cmp, is_lt, is_le, is_gt, is_ge, is_eq, ordering_reverse, ordering_then}
 use Rattle.std.specs.declared.cmp.Ordering.{Ordering}
 use Rattle.std.specs.declared.cmp.Ordering.TheVariants.{Less, Equal, Greater}
-use Rattle.std.proofs.lemmas.Bool.{false≢true, ltb-true, ltb-false, le-leb}
+use Rattle.std.proofs.lemmas.Bool.{false≢true, le-leb}
 use Rattle.bl_code.specs.Order.{bytes_cmp, same_bytes}
 use Rattle.bl_entry.specs.declared.key.Entry.{Entry}
-use Rattle.bl_entry.specs.declared.key.Kind.{Kind}
-use Rattle.bl_entry.specs.declared.key.Kind.TheVariants.{Deletion, Value, BlobRef}
 use Rattle.bl_entry.specs.Entries.{IsAscending, stands_before}
 use Rattle.bl_entry.specs.Keys.{Key, KeysDiffer, key_cmp, key_number, kind_number}
+use Rattle.bl_entry.specs.Latest.{is_seen, latest}
+use Rattle.bl_entry.proofs.ListLemmas.{all_from, by_test}
+use Rattle.bl_entry.proofs.OrderLemmas.{AreBehind, eq_of, key_total, kind_small, less_of, nat_cmp_ge, nat_cmp_lt}
 use Rattle.bl_memtab.specs.Rows.{before, if_of_user, is_before}
-use Rattle.bl_memtab.specs.Tables.{IsFree, with_entry, is_seen, latest, is_reached, after}
-use Rattle.bl_memtab.proofs.Cuts.{all_from, by_test, filter_back, filter_front, find_none, find_same}
-use Rattle.bl_memtab.proofs.Orders.{before_cut, key_total}
+use Rattle.bl_memtab.specs.Tables.{IsFree, with_entry, is_reached, after}
+use Rattle.bl_memtab.proofs.Cuts.{filter_back, filter_front, find_none, find_same}
+use Rattle.bl_memtab.proofs.Orders.{before_cut}
 
 -- ---- an entry in its place
 
@@ -42,14 +43,6 @@ with_entry_is differ entry es up free =
     let back : filter (λ e. stands_before entry e) es ≡ drop (prefix_len (before entry.key) es) es
     = filter_back (before entry.key) (λ e. stands_before entry e) es cut (each_apart differ entry es free) in
     λ i. front i ++ entry ∷ back i
-
-less_of : (o : Ordering) → is_lt o ≡ true → o ≡ Less
-less_of Less h = refl
-less_of Equal h = absurd (false≢true h)
-less_of Greater h = absurd (false≢true h)
-
-abbrev pub AreBehind : Key → List Entry → Type 0
-AreBehind k es = AllByRecursion (λ q. key_cmp k q ≡ Less) (map (λ e. e.key) es)
 
 behind_insert : (k : Key) (es : List Entry) (n : ℕ) (e : Entry) → AreBehind k es → key_cmp k e.key ≡ Less → AreBehind k (insert es n e)
 behind_insert k [] zero e h lt = (lt, tt)
@@ -97,23 +90,6 @@ after_is from user number strict es u n =
 
 -- ---- the latest entry of a user key
 
-pub kind_small : (k : Kind) → kind_number k < 256
-kind_small Deletion = omega arith
-kind_small Value = omega arith
-kind_small BlobRef = omega arith
-
-pub nat_cmp_lt : (a b : ℕ) → is_lt (nat_cmp a b) ≡ true → a < b
-nat_cmp_lt a b h = by_test (nat_lt a b) (λ e. ltb-true a b e) (λ e. absurd (false≢true (sym (not_lt e) ∙ h)))
-  where
-    not_lt : nat_lt a b ≡ false → is_lt (nat_cmp a b) ≡ false
-    not_lt e = grind arith
-
-nat_cmp_ge : (a b : ℕ) → is_lt (nat_cmp a b) ≡ false → b ≤ a
-nat_cmp_ge a b h = by_test (nat_lt a b) (λ e. absurd (false≢true (sym h ∙ yes e))) (λ e. ltb-false a b e)
-  where
-    yes : nat_lt a b ≡ true → is_lt (nat_cmp a b) ≡ true
-    yes e = grind arith
-
 nat_le_false : (a b : ℕ) → b < a → nat_le a b ≡ false
 nat_le_false a b lt = grind arith
 
@@ -134,11 +110,6 @@ early_unseen key seq e h = by (bytes_cmp e.key.user key) refl
         let number : last_number seq < key_number e.key = nat_cmp_lt (last_number seq) (key_number e.key) (sym (ap (λ o. is_lt (ordering_then o (nat_cmp (last_number seq) (key_number e.key)))) is) ∙ h) in
         ap (λ o. is_eq o && nat_le e.key.seq seq) is ∙ nat_le_false e.key.seq seq (omega arith)
     by Greater is = absurd (false≢true (sym (ap (λ o. is_lt (ordering_then o (nat_cmp (last_number seq) (key_number e.key)))) is) ∙ h))
-
-pub eq_of : (o : Ordering) → is_eq o ≡ true → o ≡ Equal
-eq_of Less h = absurd (false≢true h)
-eq_of Equal h = refl
-eq_of Greater h = absurd (false≢true h)
 
 late_seen : (key : List ℕ) (seq : ℕ) (e : Entry) → is_early key seq e ≡ false → same_bytes e.key.user key ≡ true → is_seen key seq e ≡ true
 late_seen key seq e h same =

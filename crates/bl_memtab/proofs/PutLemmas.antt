@@ -62,7 +62,7 @@ part_done rows at half new front back are lt some less f b =
       };
     }
 
-all_insert : {A : Type 0} (P : A → Type 0) (xs : List A) (n : ℕ) (x : A) → AllByRecursion P xs → P x → AllByRecursion P (insert xs n x)
+pub all_insert : {A : Type 0} (P : A → Type 0) (xs : List A) (n : ℕ) (x : A) → AllByRecursion P xs → P x → AllByRecursion P (insert xs n x)
 all_insert P [] zero x h k = (k, tt)
 all_insert P [] (suc n) x h k = (k, tt)
 all_insert P (y ∷ xs) zero x h k = (k, h)

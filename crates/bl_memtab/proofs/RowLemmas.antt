@@ -12,8 +12,9 @@ use Rattle.std.proofs.lemmas.List.Sums.{prefix_len-le-length}
 use Rattle.bl_entry.specs.declared.key.Entry.{Entry}
 use Rattle.bl_entry.specs.Entries.{IsAscending}
 use Rattle.bl_entry.specs.Keys.{key_cmp}
+use Rattle.bl_entry.proofs.ListLemmas.{by_test}
 use Rattle.bl_memtab.specs.Rows.{AreRows, Row, entries_in, ends, passes, row_at}
-use Rattle.bl_memtab.proofs.Cuts.{IsCut, all_back, all_front, all_pass, by_test, cut_back, cut_front, first_failing, prefix_all}
+use Rattle.bl_memtab.proofs.Cuts.{IsCut, all_back, all_front, all_pass, cut_back, cut_front, first_failing, prefix_all}
 
 -- ---- the last entry of a row
 

@@ -9,10 +9,9 @@ use Rattle.std.proofs.lemmas.Bool.{false≢true}
 use Rattle.bl_entry.specs.declared.key.Entry.{Entry}
 use Rattle.bl_entry.specs.Entries.{IsAscending}
 use Rattle.bl_entry.specs.Keys.{Key, key_cmp, same_key}
+use Rattle.bl_entry.proofs.ListLemmas.{by_test}
+use Rattle.bl_entry.proofs.OrderLemmas.{AreBehind, key_total}
 use Rattle.bl_memtab.specs.Tables.{IsFree, after, is_reached}
-use Rattle.bl_memtab.proofs.Cuts.{by_test}
-use Rattle.bl_memtab.proofs.Orders.{key_total}
-use Rattle.bl_memtab.proofs.PlaceLemmas.{AreBehind}
 
 same_equiv : IsEquivalence same_key
 same_equiv = search (comparing, rules)

@@ -1,29 +1,24 @@
--- What the latest entry of a user key is, and what it tells.
-use Rattle.std.specs.Prelude.{◌≡◌, ℕ, ◌≤◌, true, false, IsTrue, List, ◌∷◌, ◌++◌, map, Contains, slice_get, None, Some, option_and_then, if◌then◌else◌}
-use Rattle.bl_entry.specs.Entries.{IsAscending, is_deletion, stands_before}
-use Rattle.bl_entry.specs.Revisions.{Revision, value_at}
+-- How a memory table is gone over, entry by entry.
+use Rattle.std.specs.Prelude.{◌≡◌, ℕ, suc, true, false, List, [], ◌∷◌, ◌++◌, slice_get, Some}
+use Rattle.std.specs.List.{AllByRecursion}
+use Rattle.bl_entry.specs.Entries.{IsAscending}
+use Rattle.bl_entry.specs.Keys.{IsKey, Key, max_seq}
 use Rattle.bl_entry.specs.declared.key.Entry.{Entry}
-use Rattle.bl_memtab.specs.Tables.{after, is_seen, latest}
+use Rattle.bl_entry.specs.declared.key.Kind.TheVariants.{BlobRef}
+use Rattle.bl_memtab.specs.Tables.{after}
 
--- of the entries of a user key up to a sequence it has the greatest sequence, and of those that have it is the first
-pub record IsLatest (key : List ℕ) (seq : ℕ) (es : List Entry) (e : Entry) : Type 0 where
-  pub there : Contains es e
-  pub seen : IsTrue (is_seen key seq e)
-  pub greatest : (other : Entry) → Contains es other → IsTrue (is_seen key seq other) → other.key.seq ≤ e.key.seq
-  pub first : (other : Entry) → Contains es other → IsTrue (is_seen key seq other) → stands_before other e ≡ false
+-- a key that no other stands before
+abbrev pub least_key : Key
+least_key = record { user = 0 ∷ []; seq = max_seq; kind = BlobRef }
 
-abbrev pub LatestIsGreatest : Type 0
-LatestIsGreatest = (es : List Entry) (key : List ℕ) (seq : ℕ) (e : Entry) → IsAscending es → latest key seq es ≡ Some e → IsLatest key seq es e
+-- From the least key on stands the first entry.
+abbrev pub FirstIsFromLeast : Type 0
+FirstIsFromLeast = (es : List Entry) → AllByRecursion (λ e. IsKey e.key) es → after least_key false es ≡ slice_get es 0
 
--- what a put or a deletion wrote
-abbrev pub revision_of : Entry → Revision
-revision_of e = record { key = e.key.user; seq = e.key.seq; put = if is_deletion e.key.kind then None else Some e.value }
-
--- the latest entry tells the key's value at the sequence
-abbrev pub LatestIsTheValue : Type 0
-LatestIsTheValue = (es : List Entry) (key : List ℕ) (seq : ℕ) → IsAscending es
-    → value_at (map revision_of es) seq key ≡ option_and_then (λ e. (revision_of e).put) (latest key seq es)
-
--- behind an entry of the list stands the next one
+-- Behind an entry of the list stands the next one,
 abbrev pub AfterIsNext : Type 0
 AfterIsNext = (front back : List Entry) (e : Entry) → IsAscending (front ++ e ∷ back) → after e.key true (front ++ e ∷ back) ≡ slice_get back 0
+
+-- and so behind the one at a place the one at the next place.
+abbrev pub AfterIsAtTheNextPlace : Type 0
+AfterIsAtTheNextPlace = (es : List Entry) (place : ℕ) (e : Entry) → IsAscending es → slice_get es place ≡ Some e → after e.key true es ≡ slice_get es (suc place)

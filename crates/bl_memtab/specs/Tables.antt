@@ -1,8 +1,7 @@
 -- A memory table: the ascending list of the entries that were inserted, and what is asked of it.
-use Rattle.std.specs.Prelude.{◌≡◌, ◌≢◌, ℕ, ◌+◌, nat_le, ◌&&◌, Bool, List, ◌∷◌, ◌++◌, length, find, filter, sum_by, Option, if◌then◌else◌}
+use Rattle.std.specs.Prelude.{◌≡◌, ◌≢◌, ℕ, ◌+◌, Bool, List, ◌∷◌, ◌++◌, length, find, filter, sum_by, Option, if◌then◌else◌}
 use Rattle.std.specs.List.{AllByRecursion}
 use Rattle.std.specs.Ordering.{is_gt, is_ge}
-use Rattle.bl_code.specs.Order.{same_bytes}
 use Rattle.bl_entry.specs.Keys.{IsKey, Key, key_cmp}
 use Rattle.bl_entry.specs.Entries.{stands_before}
 use Rattle.bl_entry.specs.declared.key.Entry.{Entry}
@@ -14,14 +13,6 @@ IsFree key es = AllByRecursion (λ e. e.key ≢ key) es
 -- the list with an entry in its place: those before it, it, and those behind it
 abbrev pub with_entry : Entry → List Entry → List Entry
 with_entry entry es = filter (λ e. stands_before e entry) es ++ entry ∷ filter (λ e. stands_before entry e) es
-
--- of this user key, and of a sequence up to this one
-abbrev pub is_seen : List ℕ → ℕ → Entry → Bool
-is_seen key seq e = same_bytes e.key.user key && nat_le e.key.seq seq
-
--- the first entry that is
-abbrev pub latest : List ℕ → ℕ → List Entry → Option Entry
-latest key seq es = find (is_seen key seq) es
 
 -- at this key or behind it, or only behind it
 abbrev pub is_reached : Key → Bool → Entry → Bool

@@ -7,5 +7,5 @@ mod table;
 #[cfg(test)]
 mod tests;
 
-pub use laws::{after_is_next, ascends, latest_is_greatest, latest_is_the_value};
+pub use laws::{after_is_next, ascends, batches_are_held, held_is_the_value, later_is_free};
 pub use table::MemTable;

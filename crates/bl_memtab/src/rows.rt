@@ -6,8 +6,9 @@ ghost use Rattle.std.specs.List.{prefix_len};
 ghost use Rattle.std.specs.Option.{option_copied};
 ghost use Rattle.bl_entry.specs.Entries.{IsAscending};
 ghost use Rattle.bl_entry.specs.Keys.{key_number};
+ghost use Rattle.bl_entry.specs.Latest.{latest as latest_in};
 ghost use Rattle.bl_memtab.specs.Rows.{AreRows, before, entries_in, ends, home, if_of_user, is_before, row_at};
-ghost use Rattle.bl_memtab.specs.Tables.{IsFree, with_entry, latest as latest_in, after as after_in};
+ghost use Rattle.bl_memtab.specs.Tables.{IsFree, with_entry, after as after_in};
 
 use bl_entry::{Entry, EntryErr, InternalKey, keys_are_read};
 use std::alloc::Global;

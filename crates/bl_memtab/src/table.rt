@@ -5,7 +5,8 @@ ghost use Rattle.std.specs.List.{AllByRecursion};
 ghost use Rattle.std.specs.Option.{option_copied};
 ghost use Rattle.bl_entry.specs.Entries.{IsAscending};
 ghost use Rattle.bl_entry.specs.Keys.{IsKey};
-ghost use Rattle.bl_memtab.specs.Tables.{IsFree, with_entry, latest, after, size};
+ghost use Rattle.bl_entry.specs.Latest.{latest};
+ghost use Rattle.bl_memtab.specs.Tables.{IsFree, with_entry, after, size};
 
 use crate::rows::Rows;
 use bl_entry::{Entry, EntryErr, InternalKey, keys_are_read};

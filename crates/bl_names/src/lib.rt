@@ -8,6 +8,9 @@ mod current;
 mod name;
 mod number;
 
+/// Numbers of files are below this one: they run from 1 to 10^15 - 1.
+pub const FILE_LIMIT: u64 = 1_000_000_000_000_000;
+
 pub use current::{parse_current, print_current};
 pub use name::{FileName, NameErr, names_one, parse_name, print_name, text_names_one};
 

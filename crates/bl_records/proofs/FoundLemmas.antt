@@ -7,7 +7,7 @@ use Rattle.std.specs.Option.{option_map, IfSome}
 use Rattle.std.specs.Result.{OnErr}
 use Rattle.bl_site.specs.Disk.{File, Name}
 use Rattle.bl_log.specs.Answers.{Answers as Tells}
-use Rattle.bl_log.specs.Log.{Step, placed_records, placed_from, steps, walk, step_at, bytes_of, IsDecided}
+use Rattle.bl_log.specs.Log.{Step, placed_records, placed_from, steps, walk, step_at, bytes_of, cause_of, IsDecided}
 use Rattle.bl_log.specs.Reading.{Reading, HasRead, HasEnded, FindsNext as FindsIn}
 use Rattle.bl_log.specs.declared.cause.EndCause.{EndCause}
 use Rattle.bl_log.specs.declared.reader.LogNext.{LogNext}
@@ -141,16 +141,17 @@ unfolding walk step_at
 undecided decided = let e : steps (0 ∷ []) ≡ steps [] = decided (0 ∷ []) in cc e
 
 whole_ends : (found : List (List ℕ × ℕ)) (fed bytes : List ℕ) (file : Option (List ℕ)) (closed : Bool) (place : ℕ) (cause : EndCause) → file ≡ Some bytes → steps bytes ≡ steps fed
-    → HasEnded fed found closed place cause → EndsBehind file found place
+    → HasEnded fed found closed place cause → EndsBehind file found place cause
 whole_ends found fed bytes file closed place cause there same end = record {
   bytes = bytes;
   there = there;
   all_found = end.all_found ∙ ap (placed_from 0) (sym same);
   place_is = end.place ∙ ap (λ (ss : List Step). bytes_of ss % 2 ^ 64) (sym same);
+  cause_is = end.cause ∙ ap cause_of (sym same);
 }
 
 decided_ends : (file : Option (List ℕ)) (offset : ℕ) (found : List (List ℕ × ℕ)) (closed : Bool) (place : ℕ) (cause : EndCause) → HasEnded (take offset (all_of file)) found closed place cause
-    → IsDecided (take offset (all_of file)) → EndsBehind file found place
+    → IsDecided (take offset (all_of file)) → EndsBehind file found place cause
 decided_ends None offset found closed place cause end decided =
     let P : List ℕ → Type 0 = λ fed. IsDecided fed in
     let nothing : take offset [] ≡ [] = take_all offset [] (omega arith) in
@@ -159,7 +160,7 @@ decided_ends (Some bytes) offset found closed place cause end decided =
     whole_ends found (take offset bytes) bytes (Some bytes) closed place cause refl (ap steps (sym (take-append-drop offset bytes)) ∙ decided (drop offset bytes)) end
 
 pub ends_behind : (name : Name) (file : Option (List ℕ)) (offset : ℕ) (reading : Reading) (found : List (List ℕ × ℕ)) (place : ℕ) (cause : EndCause) → HasFound file found (reading_at name offset reading)
-    → HasEnded (take offset (all_of file)) found reading.closed place cause → EndsBehind file found place
+    → HasEnded (take offset (all_of file)) found reading.closed place cause → EndsBehind file found place cause
 ends_behind name file offset reading found place cause h end = elim end.last [
   | inl closed ↦
       (let w = h.whole closed in
@@ -185,7 +186,7 @@ more_wanted name file offset old new n is answers same =
     read_on name file offset old new same (λ fed found r. (wants fed found r).reads)
 
 pub end_told : (name : Name) (file : Option (List ℕ)) (offset : ℕ) (old new : Reading) (n : LogNext) (place : ℕ) (cause : EndCause) → n ≡ End place cause → AnswersOf n old new → new.closed ≡ old.closed
-    → (found : List (List ℕ × ℕ)) → HasFound file found (reading_at name offset old) → HasFound file found (reading_at name offset new) × EndsBehind file found place
+    → (found : List (List ℕ × ℕ)) → HasFound file found (reading_at name offset old) → HasFound file found (reading_at name offset new) × EndsBehind file found place cause
 end_told name file offset old new n place cause is answers same found h =
     let P : LogNext → Type 0 = λ m. AnswersOf m old new in
     let ends = subst P is answers in

@@ -6,5 +6,5 @@ use Rattle.bl_records.specs.declared.reader.NextRecord.TheVariants.{Record, End,
 
 abbrev pub Answers : NextRecord → Option (List ℕ) → List (List ℕ × ℕ) → FileReading → Type 0
 Answers (Record payload) file found reader = FindsNext file found payload reader
-Answers (End place) file found reader = HasFound file found reader × EndsBehind file found place
+Answers (End place cause) file found reader = HasFound file found reader × EndsBehind file found place cause
 Answers Absent file found reader = HasFound file found reader

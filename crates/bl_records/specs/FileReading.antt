@@ -2,6 +2,7 @@
 use Rattle.std.specs.Prelude.{◌≡◌, ℕ, ◌%◌, ◌^◌, ◌≤◌, List, [], ◌∷◌, ◌++◌, length, take, true, Option, Some, unwrap_or}
 use Rattle.bl_site.specs.Disk.{Name}
 use Rattle.bl_log.specs.Log.{placed_records, ending}
+use Rattle.bl_log.specs.declared.cause.EndCause.{EndCause}
 use Rattle.bl_log.specs.Reading.{Reading, HasRead}
 
 -- the file's name, the offset before which its bytes were fed, and the reader that was fed them
@@ -28,9 +29,10 @@ pub record FindsNext (file : Option (List ℕ)) (found : List (List ℕ × ℕ))
   pub rest : List (List ℕ × ℕ)
   pub split : placed_records bytes ≡ found ++ ((payload, behind) ∷ rest)
 
--- the file is there, its records are these, and its reading ends at this place, modulo 2 ^ 64
-pub record EndsBehind (file : Option (List ℕ)) (found : List (List ℕ × ℕ)) (place : ℕ) : Type 0 where
+-- the file is there, its records are these, and its reading ends at this place, modulo 2 ^ 64, for this cause
+pub record EndsBehind (file : Option (List ℕ)) (found : List (List ℕ × ℕ)) (place : ℕ) (cause : EndCause) : Type 0 where
   pub bytes : List ℕ
   pub there : file ≡ Some bytes
   pub all_found : found ≡ placed_records bytes
   pub place_is : place ≡ (ending bytes).0 % 2 ^ 64
+  pub cause_is : cause ≡ (ending bytes).1

@@ -10,7 +10,7 @@ ghost use Rattle.bl_records.specs.Answers.{Answers};
 
 use crate::error::ReadErr;
 use bl_code::Octets;
-use bl_log::{LogNext, LogReader, found_records_are_first};
+use bl_log::{EndCause, LogNext, LogReader, found_records_are_first};
 use bl_site::Site;
 use std::alloc::Global;
 use std::marker::Model;
@@ -23,8 +23,8 @@ const PIECE: usize = 65536;
 pub enum NextRecord {
     /// The next record.
     Record(Octets),
-    /// Reading ends at this place, modulo 2^64. Each later call answers the same.
-    End(u64),
+    /// Reading ends at this place, modulo 2^64, for this cause. Each later call answers the same.
+    End(u64, EndCause),
     /// No file has this name.
     Absent,
 }
@@ -100,8 +100,8 @@ fn read_next<S: Site>(
     ensures absent { S.shows → IfOk result (λ next. next ≡ NextRecord.Absent → folder_of (S.disk site.old) name.now ≡ None) }
     ensures err { S.shows → OnErr result ((found : List (List ℕ × ℕ)) → HasFound (folder_of (S.disk site.old) name.now) found (reading_at name.now offset.old reader.old)
         → HasFound (folder_of (S.disk site.old) name.now) found (reading_at name.now offset.new reader.new)) }
-    ensures ends { (place : ℕ) → result ≡ Ok (NextRecord.End place) → (cause : EndCause) × (reader.new.ended ≡ Some (place, cause)) }
-    ensures again { IfSome reader.old.ended (λ end. (result ≡ Ok (NextRecord.End end.0)) × (reader.new ≡ reader.old) × (offset.new ≡ offset.old) × (site.new ≡ site.old)) }
+    ensures ends { (place : ℕ) (cause : EndCause) → result ≡ Ok (NextRecord.End place cause) → reader.new.ended ≡ Some (place, cause) }
+    ensures again { IfSome reader.old.ended (λ end. (result ≡ Ok (NextRecord.End end.0 end.1)) × (reader.new ≡ reader.old) × (offset.new ≡ offset.old) × (site.new ≡ site.old)) }
     ensures stays { S.shows → KeepsDisk S.disk S.may_be S.certain site.old site.new }
     ensures told { S.shows → S.told site.new ≡ S.told site.old }
     ensures time { S.shows → Elapses (S.clock site.old) (S.clock site.new) (S.left_since site.old) (S.left_since site.new) (MayLeave (S.may_be site.old) (S.told site.old)) }
@@ -114,7 +114,7 @@ fn read_next<S: Site>(
     'pieces: for _piece in 0..u64::MAX {
         match reader.next()? {
             LogNext::Found(payload) => return Ok(NextRecord::Record(payload)),
-            LogNext::End(place, _) => return Ok(NextRecord::End(place)),
+            LogNext::End(place, cause) => return Ok(NextRecord::End(place, cause)),
             LogNext::NeedMore => {
                 let there = feed_piece(site, name, buffer, reader, offset)?;
                 if !there {
@@ -143,8 +143,8 @@ impl RecordReader {
         })
     }
 
-    /// The next record of the file; or where its reading ends, as it does in a fragment that is cut or damaged; or that no file has
-    /// this name. The file is read as it is now, so as long as it stays, the records of one call after another are the file's. Nothing
+    /// The next record of the file; or where and why its reading ends, as it does in a fragment that is cut or damaged; or that no
+    /// file has this name. The file is read as it is now, so as long as it stays, the records of one call after another are the file's. Nothing
     /// changes in the folder.
     ///
     /// Errors: `Disk`; `OutOfMemory`, which also comes where the file has more than 2^64 - 1 bytes before the next record's end. The
@@ -158,8 +158,8 @@ impl RecordReader {
         ensures name { self.new.name ≡ self.old.name }
 
         // Where reading has ended, the folder is not asked again.
-        ensures ends { (place : ℕ) → result ≡ Ok (NextRecord.End place) → (cause : EndCause) × (self.new.reading.ended ≡ Some (place, cause)) }
-        ensures again { IfSome self.old.reading.ended (λ end. (result ≡ Ok (NextRecord.End end.0)) × (self.new ≡ self.old) × (site.new ≡ site.old)) }
+        ensures ends { (place : ℕ) (cause : EndCause) → result ≡ Ok (NextRecord.End place cause) → self.new.reading.ended ≡ Some (place, cause) }
+        ensures again { IfSome self.old.reading.ended (λ end. (result ≡ Ok (NextRecord.End end.0 end.1)) × (self.new ≡ self.old) × (site.new ≡ site.old)) }
 
         ensures stays { S.shows → KeepsDisk S.disk S.may_be S.certain site.old site.new }
         ensures told { S.shows → S.told site.new ≡ S.told site.old }

@@ -90,7 +90,6 @@ pub trait Site {
         ensures time { shows → Elapses (clock self.old) (clock self.new) (left_since self.old) (left_since self.new) (MayLeave (may_be self.new) (told self.new)) }
         ensures still { shows → IsErrOf result OutOfMemory → StandsStill clock left_since self.old self.new }
         ensures cause { HasDiskCause (disk_faults self.old) (disk_faults self.new) result }
-        ensures no_fault { IsErrOf result OutOfMemory → disk_faults self.new ≡ disk_faults self.old }
         ensures tell_faults { tell_faults self.new ≡ tell_faults self.old }
         ensures changes { changes self.new ≡ changes self.old };
 
@@ -112,7 +111,6 @@ pub trait Site {
         ensures time { shows → Elapses (clock self.old) (clock self.new) (left_since self.old) (left_since self.new) (MayLeave (may_be self.new) (told self.new)) }
         ensures still { shows → IsErrOf result OutOfMemory → StandsStill clock left_since self.old self.new }
         ensures cause { HasDiskCause (disk_faults self.old) (disk_faults self.new) result }
-        ensures no_fault { IsErrOf result OutOfMemory → disk_faults self.new ≡ disk_faults self.old }
         ensures tell_faults { tell_faults self.new ≡ tell_faults self.old }
         ensures changes { changes self.new ≡ changes self.old };
 
@@ -127,7 +125,6 @@ pub trait Site {
         ensures time { shows → Elapses (clock self.old) (clock self.new) (left_since self.old) (left_since self.new) (MayLeave (may_be self.new) (told self.new)) }
         ensures still { shows → IsErrOf result OutOfMemory → StandsStill clock left_since self.old self.new }
         ensures cause { HasDiskCause (disk_faults self.old) (disk_faults self.new) result }
-        ensures no_fault { IsErrOf result OutOfMemory → disk_faults self.new ≡ disk_faults self.old }
         ensures tell_faults { tell_faults self.new ≡ tell_faults self.old }
         ensures changes { changes self.new ≡ changes self.old };
 
@@ -145,7 +142,6 @@ pub trait Site {
         ensures time { shows → Elapses (clock self.old) (clock self.new) (left_since self.old) (left_since self.new) (MayLeave (MayDuring (Creates name.now) (may_be self.old)) (told self.old)) }
         ensures still { shows → IsErrOf result OutOfMemory → StandsStill clock left_since self.old self.new }
         ensures cause { HasDiskCause (disk_faults self.old) (disk_faults self.new) result }
-        ensures no_fault { IsErrOf result OutOfMemory → disk_faults self.new ≡ disk_faults self.old }
         ensures tell_faults { tell_faults self.new ≡ tell_faults self.old }
         ensures changes { changes self.new ≡ one_more (changes self.old) };
 
@@ -166,7 +162,6 @@ pub trait Site {
         ensures time { shows → Elapses (clock self.old) (clock self.new) (left_since self.old) (left_since self.new) (MayLeave (may_be self.new) (told self.new)) }
         ensures still { shows → IsErrOf result OutOfMemory → StandsStill clock left_since self.old self.new }
         ensures cause { HasDiskCause (disk_faults self.old) (disk_faults self.new) result }
-        ensures no_fault { IsErrOf result OutOfMemory → disk_faults self.new ≡ disk_faults self.old }
         ensures tell_faults { tell_faults self.new ≡ tell_faults self.old }
         ensures changes { changes self.new ≡ one_more (changes self.old) };
 
@@ -187,7 +182,6 @@ pub trait Site {
         ensures time { shows → Elapses (clock self.old) (clock self.new) (left_since self.old) (left_since self.new) (MayLeave (may_be self.new) (told self.new)) }
         ensures still { shows → IsErrOf result OutOfMemory → StandsStill clock left_since self.old self.new }
         ensures cause { HasDiskCause (disk_faults self.old) (disk_faults self.new) result }
-        ensures no_fault { IsErrOf result OutOfMemory → disk_faults self.new ≡ disk_faults self.old }
         ensures tell_faults { tell_faults self.new ≡ tell_faults self.old }
         ensures changes { changes self.new ≡ one_more (changes self.old) };
 
@@ -206,7 +200,6 @@ pub trait Site {
         ensures time { shows → Elapses (clock self.old) (clock self.new) (left_since self.old) (left_since self.new) (MayLeave (MayDuring (Renames from.now to.now) (may_be self.old)) (told self.old)) }
         ensures still { shows → IsErrOf result OutOfMemory → StandsStill clock left_since self.old self.new }
         ensures cause { HasDiskCause (disk_faults self.old) (disk_faults self.new) result }
-        ensures no_fault { IsErrOf result OutOfMemory → disk_faults self.new ≡ disk_faults self.old }
         ensures tell_faults { tell_faults self.new ≡ tell_faults self.old }
         ensures changes { changes self.new ≡ one_more (changes self.old) };
 
@@ -224,7 +217,6 @@ pub trait Site {
         ensures time { shows → Elapses (clock self.old) (clock self.new) (left_since self.old) (left_since self.new) (MayLeave (MayDuring (Removes name.now) (may_be self.old)) (told self.old)) }
         ensures still { shows → IsErrOf result OutOfMemory → StandsStill clock left_since self.old self.new }
         ensures cause { HasDiskCause (disk_faults self.old) (disk_faults self.new) result }
-        ensures no_fault { IsErrOf result OutOfMemory → disk_faults self.new ≡ disk_faults self.old }
         ensures tell_faults { tell_faults self.new ≡ tell_faults self.old }
         ensures changes { changes self.new ≡ one_more (changes self.old) };
 
@@ -239,7 +231,6 @@ pub trait Site {
         ensures time { shows → Elapses (clock self.old) (clock self.new) (left_since self.old) (left_since self.new) (Tells (may_be self.old) (told self.old) bytes.now) }
         ensures still { shows → IsErrOf result OutOfMemory → StandsStill clock left_since self.old self.new }
         ensures cause { HasTellCause (tell_faults self.old) (tell_faults self.new) result }
-        ensures no_fault { IsErrOf result OutOfMemory → tell_faults self.new ≡ tell_faults self.old }
         ensures disk_faults { disk_faults self.new ≡ disk_faults self.old }
         ensures changes { changes self.new ≡ changes self.old };
 

@@ -171,7 +171,7 @@ impl MemSite {
     }
 }
 
-// What the calls of a site do.
+// The calls of a site, as they are recorded.
 impl MemSite {
     fn count_change(&mut self)
         ensures { self.new ≡ record { entries = self.old.entries; failing = self.old.failing; changes = one_more self.old.changes } }
@@ -211,7 +211,58 @@ impl MemSite {
         Ok(())
     }
 
-    pub(crate) fn do_create(&mut self, name: &str) -> Result<(), SiteErr>
+    /// The length of a file in bytes, or `None` where no file has this name.
+    ///
+    /// Errors: `DiskFailed` where the call is to fail; `OutOfMemory`.
+    pub fn len(&mut self, name: &str) -> Result<Option<u64>, SiteErr>
+        ensures recorded { IsRecorded Look result self.old self.new }
+        ensures value { IfOk result (λ r. MatchOption r (disk_of self.old name.now ≡ None)
+            (λ n. (file : File) × (disk_of self.old name.now ≡ Some file) × (n ≡ length file.read))) }
+        ensures not_tell { IsErrOf result TellFailed → ⊥ }
+    {
+        let found = self.length_of(name);
+        self.look()?;
+        Ok(found)
+    }
+
+    /// Reads all bytes of a file from `offset` on that fit into `into`, and answers their number; `None` where no file has this
+    /// name.
+    ///
+    /// Errors: `DiskFailed` where the call is to fail; `OutOfMemory`.
+    pub fn read_at(
+        &mut self,
+        name: &str,
+        offset: u64,
+        into: &mut [u8],
+    ) -> Result<Option<usize>, SiteErr>
+        ensures recorded { IsRecorded Look result self.old self.new }
+        ensures value { IfOk result (λ r. MatchOption r (disk_of self.old name.now ≡ None)
+            (λ n. (file : File) × (disk_of self.old name.now ≡ Some file) × (n ≡ min (length into.new) (length file.read - offset)) × (take n into.new ≡ take n (drop offset file.read)))) }
+        ensures not_tell { IsErrOf result TellFailed → ⊥ }
+    {
+        let found = self.read_into(name, offset, into);
+        self.look()?;
+        Ok(found)
+    }
+
+    /// All names, each once.
+    ///
+    /// Errors: `DiskFailed` where the call is to fail; `OutOfMemory`.
+    pub fn list(&mut self, alloc: Global) -> Result<Vec<String>, SiteErr>
+        ensures recorded { IsRecorded Look result self.old self.new }
+        ensures value { IfOk result (λ names. (name : List ℕ) → Contains (map string_bytes names.items) name ↔ IsSome (disk_of self.old name)) }
+        ensures once { IfOk result (λ names. AllPairs (λ a b. a ≢ b) (map string_bytes names.items)) }
+        ensures not_tell { IsErrOf result TellFailed → ⊥ }
+    {
+        let names = self.names(alloc)?;
+        self.look()?;
+        Ok(names)
+    }
+
+    /// Makes the name stand for an empty file, in the place of what it stood for.
+    ///
+    /// Errors: `DiskFailed` where the call is to fail, which changes nothing but the counts; `OutOfMemory`.
+    pub fn create(&mut self, name: &str) -> Result<(), SiteErr>
         ensures recorded { IsRecorded (Create name.now) result self.old self.new }
         ensures not_tell { IsErrOf result TellFailed → ⊥ }
     {
@@ -220,7 +271,10 @@ impl MemSite {
         self.ask_disk(KeptCall::Create(name))
     }
 
-    pub(crate) fn do_append(&mut self, name: &str, bytes: &[u8]) -> Result<(), SiteErr>
+    /// Lets the bytes follow in the file of this name.
+    ///
+    /// Errors: `DiskFailed` where the call is to fail: the first half of the bytes follows; `OutOfMemory`.
+    pub fn append(&mut self, name: &str, bytes: &[u8]) -> Result<(), SiteErr>
         ensures recorded { IsRecorded (Append name.now bytes.now) result self.old self.new }
         ensures not_tell { IsErrOf result TellFailed → ⊥ }
     {
@@ -230,7 +284,10 @@ impl MemSite {
         self.ask_disk(KeptCall::Append(name, bytes))
     }
 
-    pub(crate) fn do_sync(&mut self, name: &str) -> Result<(), SiteErr>
+    /// Puts all bytes of the file of this name on the disk.
+    ///
+    /// Errors: `DiskFailed` where the call is to fail, which changes nothing but the counts; `OutOfMemory`.
+    pub fn sync(&mut self, name: &str) -> Result<(), SiteErr>
         ensures recorded { IsRecorded (Sync name.now) result self.old self.new }
         ensures not_tell { IsErrOf result TellFailed → ⊥ }
     {
@@ -239,7 +296,10 @@ impl MemSite {
         self.ask_disk(KeptCall::Sync(name))
     }
 
-    pub(crate) fn do_rename(&mut self, from: &str, to: &str) -> Result<(), SiteErr>
+    /// Makes `to` stand for what `from` stood for, and takes `from` away.
+    ///
+    /// Errors: `DiskFailed` where the call is to fail, which changes nothing but the counts; `OutOfMemory`.
+    pub fn rename(&mut self, from: &str, to: &str) -> Result<(), SiteErr>
         ensures recorded { IsRecorded (Rename from.now to.now) result self.old self.new }
         ensures not_tell { IsErrOf result TellFailed → ⊥ }
     {
@@ -249,7 +309,10 @@ impl MemSite {
         self.ask_disk(KeptCall::Rename(from, to))
     }
 
-    pub(crate) fn do_remove(&mut self, name: &str) -> Result<(), SiteErr>
+    /// Takes the name away.
+    ///
+    /// Errors: `DiskFailed` where the call is to fail, which changes nothing but the counts; `OutOfMemory`.
+    pub fn remove(&mut self, name: &str) -> Result<(), SiteErr>
         ensures recorded { IsRecorded (Remove name.now) result self.old self.new }
         ensures not_tell { IsErrOf result TellFailed → ⊥ }
     {
@@ -258,14 +321,17 @@ impl MemSite {
         self.ask_disk(KeptCall::Remove(name))
     }
 
-    pub(crate) fn do_look(&mut self) -> Result<(), SiteErr>
+    fn look(&mut self) -> Result<(), SiteErr>
         ensures recorded { IsRecorded Look result self.old self.new }
         ensures not_tell { IsErrOf result TellFailed → ⊥ }
     {
         self.ask_disk(KeptCall::Look)
     }
 
-    pub(crate) fn do_tell(&mut self, bytes: &[u8]) -> Result<(), SiteErr>
+    /// Lets the bytes follow what was told.
+    ///
+    /// Errors: `TellFailed` where the call is to fail: the first half of the bytes follows; `OutOfMemory`.
+    pub fn tell(&mut self, bytes: &[u8]) -> Result<(), SiteErr>
         ensures recorded { IsRecorded (Tell bytes.now) result self.old self.new }
         ensures not_disk { IsErrOf result DiskFailed → ⊥ }
     {
@@ -276,7 +342,7 @@ impl MemSite {
         Ok(())
     }
 
-    pub(crate) fn length_of(&self, name: &str) -> Option<u64>
+    fn length_of(&self, name: &str) -> Option<u64>
         ensures { MatchOption result (disk_of self.now name.now ≡ None) (λ n. (file : File) × (disk_of self.now name.now ≡ Some file) × (n ≡ length file.read)) }
     {
         match read_of(&self.files, name) {
@@ -285,14 +351,14 @@ impl MemSite {
         }
     }
 
-    pub(crate) fn names(&self, alloc: Global) -> Result<Vec<String>, AllocError>
+    fn names(&self, alloc: Global) -> Result<Vec<String>, AllocError>
         ensures value { IfOk result (λ names. (name : List ℕ) → Contains (map string_bytes names.items) name ↔ IsSome (disk_of self.now name)) }
         ensures once { IfOk result (λ names. AllPairs (λ a b. a ≢ b) (map string_bytes names.items)) }
     {
         names_in(alloc, &self.files)
     }
 
-    pub(crate) fn read_into(&self, name: &str, offset: u64, into: &mut [u8]) -> Option<usize>
+    fn read_into(&self, name: &str, offset: u64, into: &mut [u8]) -> Option<usize>
         ensures { MatchOption result (disk_of self.now name.now ≡ None)
             (λ n. (file : File) × (disk_of self.now name.now ≡ Some file) × (n ≡ min (length into.new) (length file.read - offset)) × (take n into.new ≡ take n (drop offset file.read))) }
     {

@@ -5,7 +5,7 @@ use Rattle.bl_entry.specs.Batches.{Batch}
 use Rattle.bl_entry.specs.Revisions.{Map, after_put, after_operations}
 use Rattle.bl_entry.specs.declared.batch.Operation.{Operation}
 use Rattle.bl_entry.specs.declared.key.Entry.{Entry}
-use Rattle.bl_wal.specs.Entries.{entry, entries_from, entries_of}
+use Rattle.bl_entry.specs.Written.{entry, entries_from, entries_of}
 use Rattle.bl_store.specs.Logs.{after_batches}
 use Rattle.bl_store.specs.Replaying.{after_kind, after_entries}
 

@@ -1,6 +1,6 @@
 //! The records of a file, read one after another.
 
-use bl_log::LogWriter;
+use bl_log::{EndCause, LogWriter};
 use bl_records::{NextRecord, ReadErr, RecordReader};
 use bl_site_mem::MemSite;
 use std::alloc::Global;
@@ -40,10 +40,10 @@ fn size_of(answer: Result<NextRecord, ReadErr>) -> Option<usize> {
     }
 }
 
-// The place at which reading ends.
-fn end_of(answer: Result<NextRecord, ReadErr>) -> Option<u64> {
+// Where reading ends, and why.
+fn end_of(answer: Result<NextRecord, ReadErr>) -> Option<(u64, EndCause)> {
     match answer {
-        Ok(NextRecord::End(place)) => Some(place),
+        Ok(NextRecord::End(place, cause)) => Some((place, cause)),
         _ => None,
     }
 }
@@ -66,8 +66,14 @@ fn records_stand_in_two_pieces(rt: HostRuntime) -> Result<(), Fail> {
     assert_eq!(rt; reader.place(), 4 * 7 + 100_000);
     assert_eq!(rt; size_of(reader.next(&mut site)), Some(3));
     assert_eq!(rt; reader.place(), 4 * 7 + 100_000 + 7 + 3);
-    assert_eq!(rt; end_of(reader.next(&mut site)), Some(100_038));
-    assert_eq!(rt; end_of(reader.next(&mut site)), Some(100_038));
+    assert_eq!(rt;
+        end_of(reader.next(&mut site)),
+        Some((100_038, EndCause::Finished))
+    );
+    assert_eq!(rt;
+        end_of(reader.next(&mut site)),
+        Some((100_038, EndCause::Finished))
+    );
     Ok(())
 }
 
@@ -79,7 +85,10 @@ fn a_cut_record_is_not_read(rt: HostRuntime) -> Result<(), Fail> {
     site.put_file(NAME, &log[..log.len().saturating_sub(1)])?;
     let mut reader = opened(rt.alloc())?;
     assert_eq!(rt; size_of(reader.next(&mut site)), Some(100_000));
-    assert_eq!(rt; end_of(reader.next(&mut site)), Some(100_028));
+    assert_eq!(rt;
+        end_of(reader.next(&mut site)),
+        Some((100_028, EndCause::Cut))
+    );
     Ok(())
 }
 
@@ -94,6 +103,9 @@ fn a_reader_is_asked_again(rt: HostRuntime) -> Result<(), Fail> {
     assert!(rt; is_disk(reader.next(&mut site)));
     assert_eq!(rt; size_of(reader.next(&mut site)), Some(100_000));
     assert_eq!(rt; size_of(reader.next(&mut site)), Some(3));
-    assert_eq!(rt; end_of(reader.next(&mut site)), Some(100_038));
+    assert_eq!(rt;
+        end_of(reader.next(&mut site)),
+        Some((100_038, EndCause::Finished))
+    );
     Ok(())
 }

@@ -2,7 +2,7 @@
 use Rattle.std.proofs.Common.{◌≡◌, ℕ, suc, ◌+◌, List, [], ◌∷◌, ◌++◌, length, sym, ◌∙◌, ap, arith, append_assoc, append-nil}
 use Rattle.bl_entry.specs.declared.batch.Operation.{Operation}
 use Rattle.bl_entry.specs.declared.key.Entry.{Entry}
-use Rattle.bl_wal.specs.Entries.{entry, entries_from}
+use Rattle.bl_entry.specs.Written.{entry, entries_from}
 
 at_seq : (o : Operation) (a b : ℕ) → a ≡ b → entry o.key a o.put ∷ [] ≡ entry o.key b o.put ∷ []
 at_seq o a b e = ap (λ n. entry o.key n o.put ∷ []) e

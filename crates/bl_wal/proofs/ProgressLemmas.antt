@@ -5,13 +5,14 @@ use Rattle.std.proofs.lemmas.List.{map-append}
 use Rattle.std.specs.Prelude.{option_and_then}
 use Rattle.bl_site.specs.Disk.{Folder}
 use Rattle.bl_log.specs.Log.{records, placed_records}
+use Rattle.bl_log.specs.declared.cause.EndCause.{EndCause}
 use Rattle.bl_records.specs.FileReading.{FileReading, HasFound, FindsNext, EndsBehind}
 use Rattle.bl_entry.specs.Batches.{Batch}
 use Rattle.bl_entry.specs.Records.{batches_of, and_batches, BatchesJoin}
 use Rattle.bl_entry.specs.declared.key.Entry.{Entry}
-use Rattle.bl_wal.specs.Entries.{entries_from, entries_of}
+use Rattle.bl_entry.specs.Written.{entries_from, entries_of}
 use Rattle.bl_wal.specs.LogFile.{log_name}
-use Rattle.bl_wal.specs.Replay.{Taken, HasEntries, IsTorn}
+use Rattle.bl_wal.specs.Replay.{Taken, HasEntries, EndsAt, IsTorn}
 use Rattle.bl_wal.specs.declared.error.WalErr.{WalErr}
 use Rattle.bl_wal.specs.declared.error.WalErr.TheVariants.{OutOfMemory, Corrupt}
 
@@ -54,10 +55,10 @@ module _ (before : ℕ) (file : Option (List ℕ)) where
       }
 
 -- reading ended: the entries are those of the log
-pub ended : ((bytes : List ℕ) → map (λ (found : List ℕ × ℕ). found.0) (placed_records bytes) ≡ records bytes) → (folder : Folder) (number before : ℕ) (reader : FileReading) (entries : List Entry) (last place : ℕ)
-    → ((found : List (List ℕ × ℕ)) → HasFound (folder (log_name number)) found reader → EndsBehind (folder (log_name number)) found place)
+pub ended : ((bytes : List ℕ) → map (λ (found : List ℕ × ℕ). found.0) (placed_records bytes) ≡ records bytes) → (folder : Folder) (number before : ℕ) (reader : FileReading) (entries : List Entry) (last place : ℕ) (cause : EndCause)
+    → ((found : List (List ℕ × ℕ)) → HasFound (folder (log_name number)) found reader → EndsBehind (folder (log_name number)) found place cause)
     → Progress before (folder (log_name number)) reader entries last → HasEntries folder number before entries last
-ended law folder number before reader entries last place ends p =
+ended law folder number before reader entries last place cause ends p =
     let end = ends p.found p.has in
     record {
       bytes = end.bytes;
@@ -68,6 +69,13 @@ ended law folder number before reader entries last place ends p =
         entries_are = p.entries_are;
       };
     }
+
+pub ends_at : (folder : Folder) (number before : ℕ) (reader : FileReading) (entries : List Entry) (last place : ℕ) (cause : EndCause)
+    → ((found : List (List ℕ × ℕ)) → HasFound (folder (log_name number)) found reader → EndsBehind (folder (log_name number)) found place cause)
+    → Progress before (folder (log_name number)) reader entries last → EndsAt folder number (record { place = place; cause = cause })
+ends_at folder number before reader entries last place cause ends p =
+    let end = ends p.found p.has in
+    record { bytes = end.bytes; there = end.there; place_is = end.place_is; cause_is = end.cause_is }
 
 -- a record that is not taken: there the log breaks off
 pub broke_off : (folder : Folder) (number before : ℕ) (old new : FileReading) (payload : List ℕ) (entries : List Entry) (last place : ℕ)

@@ -6,7 +6,7 @@ use Rattle.bl_entry.specs.Reading.{read_batch}
 use Rattle.bl_entry.specs.Records.{batches_of}
 use Rattle.bl_entry.specs.declared.decode.BadBatch.{BadBatch}
 use Rattle.bl_entry.specs.declared.key.Entry.{Entry}
-use Rattle.bl_wal.specs.Entries.{entries_from, entries_of}
+use Rattle.bl_entry.specs.Written.{entries_from, entries_of}
 
 pub none_read : (payload : List ℕ) (last : ℕ) (fault : BadBatch) → read_batch payload ≡ Err fault → batches_of (payload ∷ []) last ≡ None
 unfolding batches_of

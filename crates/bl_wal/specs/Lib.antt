@@ -1,5 +1,4 @@
 pub mod Causes
-pub mod Entries
 pub mod Held
 pub mod Laws
 pub mod LogFile

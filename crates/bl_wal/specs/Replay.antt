@@ -1,11 +1,12 @@
 -- What replaying a log gives.
 use Rattle.std.specs.Prelude.{◌≡◌, ℕ, ◌%◌, ◌^◌, List, [], ◌∷◌, ◌++◌, map, Bool, true, false, None, Some, ◌⊎◌}
 use Rattle.bl_site.specs.Disk.{Folder}
-use Rattle.bl_log.specs.Log.{records, placed_records}
+use Rattle.bl_log.specs.Log.{records, placed_records, ending}
 use Rattle.bl_entry.specs.Batches.{Batch}
 use Rattle.bl_entry.specs.Records.{batches_of}
 use Rattle.bl_entry.specs.declared.key.Entry.{Entry}
-use Rattle.bl_wal.specs.Entries.{entries_of}
+use Rattle.bl_entry.specs.Written.{entries_of}
+use Rattle.bl_wal.specs.declared.replayed.LogEnd.{LogEnd}
 use Rattle.bl_wal.specs.LogFile.{log_name}
 
 -- each record of the bytes is a batch that begins behind the last sequence; these are the entries, and the last sequence behind them
@@ -19,6 +20,13 @@ pub record HasEntries (folder : Folder) (number before : ℕ) (entries : List En
   pub bytes : List ℕ
   pub there : folder (log_name number) ≡ Some bytes
   pub replays : Replays bytes before entries last
+
+-- the reading of the log of this number ends at this place, modulo 2 ^ 64, for this cause
+pub record EndsAt (folder : Folder) (number : ℕ) (end : LogEnd) : Type 0 where
+  pub bytes : List ℕ
+  pub there : folder (log_name number) ≡ Some bytes
+  pub place_is : end.place ≡ (ending bytes).0 % 2 ^ 64
+  pub cause_is : end.cause ≡ (ending bytes).1
 
 -- a record that is no batch, or does not begin behind the last sequence, is the first such; the place is the one behind it, modulo 2 ^ 64
 pub record BreaksOff (bytes : List ℕ) (before place : ℕ) : Type 0 where

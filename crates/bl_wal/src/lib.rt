@@ -10,5 +10,5 @@ mod wal;
 pub use entries::Entries;
 pub use error::WalErr;
 pub use laws::{cut_logs_read_as_fronts, logs_are_read, records_are_batches, synced_logs_are_left};
-pub use replayed::{Replayed, replay};
+pub use replayed::{LogEnd, Replayed, replay};
 pub use wal::Wal;

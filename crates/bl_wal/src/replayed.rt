@@ -6,19 +6,28 @@ ghost use Rattle.bl_site.specs.Calls.{KeepsDisk, Elapses};
 ghost use Rattle.bl_site.specs.Causes.{Rose};
 ghost use Rattle.bl_names.specs.Names.{IsNumber};
 ghost use Rattle.bl_entry.specs.Batches.{IsOperation};
-ghost use Rattle.bl_wal.specs.Entries.{entry, entries_from};
+ghost use Rattle.bl_entry.specs.Written.{entry, entries_from};
 ghost use Rattle.bl_wal.specs.LogFile.{log_name};
-ghost use Rattle.bl_wal.specs.Replay.{HasEntries, IsTorn, Taken};
+ghost use Rattle.bl_wal.specs.Replay.{HasEntries, EndsAt, IsTorn, Taken};
 
 use crate::entries::Entries;
 use crate::error::WalErr;
 use bl_code::Octets;
 use bl_entry::{BadBatch, Batch, Entry, InternalKey, Kind, Operation, batches_join, decode_batch};
-use bl_log::placed_records_are_records;
+use bl_log::{EndCause, placed_records_are_records};
 use bl_names::{FileName, print_name};
 use bl_records::{NextRecord, RecordReader};
 use bl_site::Site;
 use std::alloc::Global;
+
+/// Where the reading of a log ended, and why.
+#[derive(Clone, Copy, Debug, Drop, PartialEq, Eq)]
+pub struct LogEnd {
+    /// The place in the file, modulo 2^64.
+    pub place: u64,
+    /// Why. What follows there was not read.
+    pub cause: EndCause,
+}
 
 /// What a log held.
 #[derive(Drop)]
@@ -27,6 +36,8 @@ pub struct Replayed {
     pub entries: Entries,
     /// The last sequence behind them.
     pub last: u64,
+    /// Where the log's reading ended. Where that is not its end, the log was cut or damaged.
+    pub ended: LogEnd,
 }
 
 // The entry of one operation, whose key and value are moved.
@@ -99,7 +110,8 @@ fn corrupt(alloc: Global, name: &str, place: u64) -> WalErr
 }
 
 /// Replays the log of this number, from 1 to 10^15 - 1: the entries of its batches, the first of which has the sequence behind
-/// `last`, up to the place at which its reading ends. A log that is cut, or damaged, in a fragment ends there.
+/// `last`, up to the place at which its reading ends, with that place and why. A log that is cut, or damaged, in a fragment ends
+/// there.
 ///
 /// Errors: `Corrupt` with the log's name, at 0 where it is not in the folder, and behind a record that is no batch or does not
 /// begin behind the last sequence; `Disk`; `OutOfMemory`. In each case nothing changed.
@@ -111,6 +123,7 @@ pub fn replay<S: Site>(
 ) -> Result<Replayed, WalErr>
     requires { IsNumber number }
     ensures replayed { S.shows → IfOk result (λ r. HasEntries (folder_of (S.disk site.old)) number last r.entries r.last) }
+    ensures ended { S.shows → IfOk result (λ r. EndsAt (folder_of (S.disk site.old)) number r.ended) }
     ensures corrupt { S.shows → (file : List ℕ) (place : ℕ) → result ≡ Err (WalErr.Corrupt file place) → (file ≡ log_name number) × IsTorn (folder_of (S.disk site.old)) number last place }
     ensures named { (file : List ℕ) (place : ℕ) → result ≡ Err (WalErr.Corrupt file place) → file ≡ log_name number }
     ensures stays { S.shows → KeepsDisk S.disk S.may_be S.certain site.old site.new }
@@ -140,11 +153,12 @@ pub fn replay<S: Site>(
                     return Err(corrupt(alloc, records.name(), records.place()));
                 }
             }
-            NextRecord::End(_) => {
+            NextRecord::End(place, cause) => {
                 let entries = Entries::from_vec(entries);
                 return Ok(Replayed {
                     entries,
                     last: last_taken,
+                    ended: LogEnd { place, cause },
                 });
             }
             NextRecord::Absent => return Err(corrupt(alloc, records.name(), 0)),

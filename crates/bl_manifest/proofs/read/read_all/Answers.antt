@@ -77,8 +77,8 @@ returns-in_default-clause-corrupt g c = λ shown file place e.
     ap (λ (d : Disk). folder_of d c.records.records.name) (c.records.invariant.stays shown).same ∙ ap folder c.records.invariant.name in
     let is = corrupt_is c.corrupt-in_default.result c.name-in_default.result.now file c.in-End.place place c.corrupt-in_default.ensures (cc e) in (
       is.0 ∙ c.name-in_default.ensures ∙ c.next.ensures.name ∙ c.records.invariant.name,
-      ended_short c.placed_records_are_records.ensures folder c.args.number c.records.records c.records.version c.records.known c.in-End.place place
-          (end_of c.in_ok-payload.field-0 c.in-End.place (folder_of (site.disk c.records.site) c.records.records.name) (folder (manifest_name c.args.number)) c.records.records c.next.new.self c.in-End.is same (c.in_ok-payload.ensures.answers shown)) (sym c.in_default.ensures) is.1 (c.records.invariant.progress shown),
+      ended_short c.placed_records_are_records.ensures folder c.args.number c.records.records c.records.version c.records.known c.in-End.place c.in-End.field-1 place
+          (end_of c.in_ok-payload.field-0 c.in-End.place c.in-End.field-1 (folder_of (site.disk c.records.site) c.records.records.name) (folder (manifest_name c.args.number)) c.records.records c.next.new.self c.in-End.is same (c.in_ok-payload.ensures.answers shown)) (sym c.in_default.ensures) is.1 (c.records.invariant.progress shown),
     )
 
 pub returns-in-Absent-clause-corrupt : goal.returns-in-Absent-clause-corrupt
@@ -96,8 +96,8 @@ returns-in-End-clause-restored g c = λ shown.
     let folder = folder_of (site.disk c.args.site.now) in
     let same : folder_of (site.disk c.records.site) c.records.records.name ≡ folder (manifest_name c.args.number) =
     ap (λ (d : Disk). folder_of d c.records.records.name) (c.records.invariant.stays shown).same ∙ ap folder c.records.invariant.name in
-    ended c.placed_records_are_records.ensures folder c.args.number c.records.records c.records.version c.records.known c.in-Some.standing c.in-End.place
-    (end_of c.in_ok-payload.field-0 c.in-End.place (folder_of (site.disk c.records.site) c.records.records.name) (folder (manifest_name c.args.number)) c.records.records c.next.new.self c.in-End.is same (c.in_ok-payload.ensures.answers shown)) (sym c.in-Some.ensures) (c.records.invariant.progress shown)
+    ended c.placed_records_are_records.ensures folder c.args.number c.records.records c.records.version c.records.known c.in-Some.standing c.in-End.place c.in-End.field-1
+    (end_of c.in_ok-payload.field-0 c.in-End.place c.in-End.field-1 (folder_of (site.disk c.records.site) c.records.records.name) (folder (manifest_name c.args.number)) c.records.records c.next.new.self c.in-End.is same (c.in_ok-payload.ensures.answers shown)) (sym c.in-Some.ensures) (c.records.invariant.progress shown)
 
 pub records-preserved : goal.records-preserved
 records-preserved g c =

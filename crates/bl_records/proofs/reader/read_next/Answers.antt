@@ -17,7 +17,7 @@ returns-in-Found-clause-answers g c = λ shown found h.
 
 pub returns-in-End-clause-answers : goal.returns-in-End-clause-answers
 returns-in-End-clause-answers g c = λ shown found h.
-    end_told c.args.name.now (folder_of (g.S.Site.disk c.args.site.now) c.args.name.now) c.pieces.offset c.pieces.reader c.next.new.self c.in_ok-payload.field-0 c.in-End.place c.in-End.field-1 c.in-End.is c.in_ok-payload.ensures.answers c.next.ensures.closed
+    end_told c.args.name.now (folder_of (g.S.Site.disk c.args.site.now) c.args.name.now) c.pieces.offset c.pieces.reader c.next.new.self c.in_ok-payload.field-0 c.in-End.place c.in-End.cause c.in-End.is c.in_ok-payload.ensures.answers c.next.ensures.closed
     found (c.pieces.invariant.found shown found h)
 
 pub returns-in_err-there-in-NeedMore-clause-err : goal.returns-in_err-there-in-NeedMore-clause-err

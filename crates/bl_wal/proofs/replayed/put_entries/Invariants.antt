@@ -1,5 +1,5 @@
 use Rattle.std.proofs.Common.{◌≡◌, ◌+◌, ◌++◌, length}
-use Rattle.bl_wal.specs.Entries.{entries_from}
+use Rattle.bl_entry.specs.Written.{entries_from}
 use Rattle.bl_wal.proofs.replayed.put_entries.Given as goal
 
 abbrev pub invariant-loop-operation : goal.invariant-loop-operation

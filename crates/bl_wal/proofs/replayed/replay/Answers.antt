@@ -5,7 +5,7 @@ use Rattle.bl_records.proofs.AnswerLemmas.{record_of, end_of}
 use Rattle.bl_records.proofs.QuietCalls.{keeps_none, keeps_then, elapses_none, elapses_then}
 use Rattle.bl_wal.specs.LogFile.{log_name}
 use Rattle.bl_wal.specs.Replay.{HasEntries}
-use Rattle.bl_wal.proofs.ProgressLemmas.{begins, record_taken, ended, broke_off, taken_of, corrupt_is}
+use Rattle.bl_wal.proofs.ProgressLemmas.{begins, record_taken, ended, ends_at, broke_off, taken_of, corrupt_is}
 use Rattle.bl_wal.proofs.replayed.replay.Goals as goal
 
 pub records-init : goal.records-init
@@ -82,9 +82,19 @@ returns-in-End-clause-replayed g c = λ shown.
     ap (λ (d : Disk). folder_of d c.records.records.name) (c.records.invariant.stays shown).same ∙ ap folder c.records.invariant.name in
     let P : List Entry → Type 0 = λ es. HasEntries folder c.args.number c.args.last es c.records.last_taken in
     subst P (sym c.from_vec-entries.ensures)
-    (ended c.placed_records_are_records.ensures folder c.args.number c.args.last c.records.records c.records.entries.items c.records.last_taken c.in-End.field-0
-    (end_of c.in_ok-payload.field-0 c.in-End.field-0 (folder_of (site.disk c.records.site) c.records.records.name) (folder (log_name c.args.number)) c.records.records c.next.new.self c.in-End.is same (c.in_ok-payload.ensures.answers shown))
+    (ended c.placed_records_are_records.ensures folder c.args.number c.args.last c.records.records c.records.entries.items c.records.last_taken c.in-End.place c.in-End.cause
+    (end_of c.in_ok-payload.field-0 c.in-End.place c.in-End.cause (folder_of (site.disk c.records.site) c.records.records.name) (folder (log_name c.args.number)) c.records.records c.next.new.self c.in-End.is same (c.in_ok-payload.ensures.answers shown))
     (c.records.invariant.progress shown))
+
+pub returns-in-End-clause-ended : goal.returns-in-End-clause-ended
+returns-in-End-clause-ended g c = λ shown.
+    let site = g.S.Site in
+    let folder = folder_of (site.disk c.args.site.now) in
+    let same : folder_of (site.disk c.records.site) c.records.records.name ≡ folder (log_name c.args.number) =
+    ap (λ (d : Disk). folder_of d c.records.records.name) (c.records.invariant.stays shown).same ∙ ap folder c.records.invariant.name in
+    ends_at folder c.args.number c.args.last c.records.records c.records.entries.items c.records.last_taken c.in-End.place c.in-End.cause
+    (end_of c.in_ok-payload.field-0 c.in-End.place c.in-End.cause (folder_of (site.disk c.records.site) c.records.records.name) (folder (log_name c.args.number)) c.records.records c.next.new.self c.in-End.is same (c.in_ok-payload.ensures.answers shown))
+    (c.records.invariant.progress shown)
 
 pub records-preserved : goal.records-preserved
 records-preserved g c =

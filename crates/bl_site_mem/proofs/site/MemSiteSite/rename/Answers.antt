@@ -5,19 +5,19 @@ use Rattle.bl_site_mem.proofs.NameCalls.{is_rename, name_done, name_certain, nam
 use Rattle.bl_site_mem.proofs.site.MemSiteSite.rename.Goals as goal
 
 pub returns-clause-done : goal.returns-clause-done
-returns-clause-done c = name_done (Renames c.args.from.now c.args.to.now) (Rename c.args.from.now c.args.to.now) (is_rename c.args.from.now c.args.to.now) c.do_rename.result (counted (Rename c.args.from.now c.args.to.now) c.args.self.now) c.do_rename.new.self c.do_rename.ensures.recorded
+returns-clause-done c = λ shown. name_done (Renames c.args.from.now c.args.to.now) (Rename c.args.from.now c.args.to.now) (is_rename c.args.from.now c.args.to.now) c.rename.result (counted (Rename c.args.from.now c.args.to.now) c.args.self.now) c.rename.new.self c.rename.ensures.recorded
 
 pub returns-clause-certain : goal.returns-clause-certain
-returns-clause-certain c = name_certain (Renames c.args.from.now c.args.to.now) (Rename c.args.from.now c.args.to.now) (is_rename c.args.from.now c.args.to.now) c.do_rename.result (counted (Rename c.args.from.now c.args.to.now) c.args.self.now) c.do_rename.new.self c.do_rename.ensures.recorded
+returns-clause-certain c = λ shown. name_certain (Renames c.args.from.now c.args.to.now) (Rename c.args.from.now c.args.to.now) (is_rename c.args.from.now c.args.to.now) c.rename.result (counted (Rename c.args.from.now c.args.to.now) c.args.self.now) c.rename.new.self c.rename.ensures.recorded
 
 pub returns-clause-failed : goal.returns-clause-failed
-returns-clause-failed c = name_failed (Renames c.args.from.now c.args.to.now) (Rename c.args.from.now c.args.to.now) (is_rename c.args.from.now c.args.to.now) c.do_rename.result (counted (Rename c.args.from.now c.args.to.now) c.args.self.now) c.do_rename.new.self c.do_rename.ensures.recorded
+returns-clause-failed c = λ shown. name_failed (Renames c.args.from.now c.args.to.now) (Rename c.args.from.now c.args.to.now) (is_rename c.args.from.now c.args.to.now) c.rename.result (counted (Rename c.args.from.now c.args.to.now) c.args.self.now) c.rename.new.self c.rename.ensures.recorded
 
 pub returns-clause-doubt : goal.returns-clause-doubt
-returns-clause-doubt c = name_doubt (Renames c.args.from.now c.args.to.now) (Rename c.args.from.now c.args.to.now) (is_rename c.args.from.now c.args.to.now) c.do_rename.result (counted (Rename c.args.from.now c.args.to.now) c.args.self.now) c.do_rename.new.self c.do_rename.ensures.recorded
+returns-clause-doubt c = λ shown. name_doubt (Renames c.args.from.now c.args.to.now) (Rename c.args.from.now c.args.to.now) (is_rename c.args.from.now c.args.to.now) c.rename.result (counted (Rename c.args.from.now c.args.to.now) c.args.self.now) c.rename.new.self c.rename.ensures.recorded
 
 pub returns-clause-told : goal.returns-clause-told
-returns-clause-told c = name_told (Renames c.args.from.now c.args.to.now) (Rename c.args.from.now c.args.to.now) (is_rename c.args.from.now c.args.to.now) c.do_rename.result (counted (Rename c.args.from.now c.args.to.now) c.args.self.now) c.do_rename.new.self c.do_rename.ensures.recorded
+returns-clause-told c = λ shown. name_told (Renames c.args.from.now c.args.to.now) (Rename c.args.from.now c.args.to.now) (is_rename c.args.from.now c.args.to.now) c.rename.result (counted (Rename c.args.from.now c.args.to.now) c.args.self.now) c.rename.new.self c.rename.ensures.recorded
 
 pub returns-clause-time : goal.returns-clause-time
-returns-clause-time c = name_time (Renames c.args.from.now c.args.to.now) (Rename c.args.from.now c.args.to.now) (is_rename c.args.from.now c.args.to.now) c.do_rename.result (counted (Rename c.args.from.now c.args.to.now) c.args.self.now) c.do_rename.new.self c.do_rename.ensures.recorded
+returns-clause-time c = λ shown. name_time (Renames c.args.from.now c.args.to.now) (Rename c.args.from.now c.args.to.now) (is_rename c.args.from.now c.args.to.now) c.rename.result (counted (Rename c.args.from.now c.args.to.now) c.args.self.now) c.rename.new.self c.rename.ensures.recorded
