@@ -12,11 +12,11 @@ use Rattle.bl_script.specs.Parsing.{parsed}
 use Rattle.bl_store.specs.Laws.{CutsStand, StoresStand, BatchesMakeMap}
 use Rattle.bl_store.specs.Stored.{Stored}
 use Rattle.bl_shell.specs.declared.lines.LineInHand.{LineInHand}
-use Rattle.bl_shell.specs.Machine.{Line, orders, orders_of, reply_of, told_by, written_by, numbered, reopens_in, Began}
-use Rattle.bl_shell.specs.Carried.{state_of, Holds, Stays, TellsFront, Obeyed, Passes, HasRoom, Starts, Steady, Carried, CutIn, NoLineEnd}
+use Rattle.bl_shell.specs.Machine.{Line, orders, orders_of, reply_of, told_by, written_by, numbered, reopens_in, Start}
+use Rattle.bl_shell.specs.Carried.{state_of, Holds, IsServable, TellsFront, Obeyed, Passes, HasRoom, StandsAtStart, Steady, Carried, CutIn, NoLineEnd}
 use Rattle.bl_shell.specs.Cuts.{Stops}
 use Rattle.bl_shell.specs.Synced.{before_sync, CutOf}
-use Rattle.bl_shell.specs.Telling.{Begins, HasBegun, HasFaltered, HasTaken}
+use Rattle.bl_shell.specs.Telling.{IsStartOf, HasBegun, HasFaltered, HasTaken}
 use Rattle.bl_shell.proofs.HistoryLemmas.{told_more}
 use Rattle.bl_shell.proofs.BreakLemmas.{breaks_between, breaks_in, next_fits}
 use Rattle.bl_shell.proofs.LimitLemmas.{lines_fit}
@@ -26,16 +26,16 @@ use Rattle.bl_shell.proofs.CutLemmas.{first_stays, whole_stays, cut_between, cut
 use Rattle.bl_shell.proofs.StayLemmas.{none_numbered, no_operations}
 use Rattle.bl_shell.proofs.SyncedLemmas.{no_syncs}
 
-starts_stays : (began : Began) (folder : Folder) (store : Stored) (disk : Disk) → Starts began folder store disk
-    → Stays store (began.batches ++ numbered (began.last + 1) (written_by [])) (length began.batches + before_sync []) disk
+starts_stays : (began : Start) (folder : Folder) (store : Stored) (disk : Disk) → StandsAtStart began folder store disk
+    → IsServable store (began.batches ++ numbered (began.last + 1) (written_by [])) (length began.batches + before_sync []) disk
 starts_stays began folder store disk s =
-    let P : List Batch → Type 0 = λ bs. Stays store bs (length began.batches + before_sync []) disk in
-    let L : ℕ → Type 0 = λ least. Stays store began.batches least disk in
+    let P : List Batch → Type 0 = λ bs. IsServable store bs (length began.batches + before_sync []) disk in
+    let L : ℕ → Type 0 = λ least. IsServable store began.batches least disk in
     let none : length began.batches ≡ length began.batches + before_sync [] = omega (arith, no_syncs) in
     subst P (sym (ap (λ more. began.batches ++ more) (none_numbered (began.last + 1)) ∙ append-nil began.batches)) (subst L none s.stays)
 
 -- before the first byte
-pub starts : (began : Began) (folder : Folder) (told : List ℕ) (store : Stored) (line : LineInHand) (disk : Disk) (steady : (Cut → Type 0) → Type 0) → Starts began folder store disk → Holds line []
+pub starts : (began : Start) (folder : Folder) (told : List ℕ) (store : Stored) (line : LineInHand) (disk : Disk) (steady : (Cut → Type 0) → Type 0) → StandsAtStart began folder store disk → Holds line []
     → steady (CutOf began [] told) → Carried began folder told [] store line disk told steady
 unfolding reopens_in
 starts began folder told store line disk steady s held cuts = record {
@@ -55,12 +55,12 @@ starts began folder told store line disk steady s held cuts = record {
 }
 
 -- what a cut finds there
-pub cut_at_start : CutsStand → BatchesMakeMap → (began : Began) (folder : Folder) (store : Stored) (disk : Disk) (told : List ℕ) (c : Cut) → Starts began folder store disk → IsCut disk told c → CutOf began [] told c
+pub cut_at_start : CutsStand → BatchesMakeMap → (began : Start) (folder : Folder) (store : Stored) (disk : Disk) (told : List ℕ) (c : Cut) → StandsAtStart began folder store disk → IsCut disk told c → CutOf began [] told c
 cut_at_start law make began folder store disk told c s is =
     cut_between make began told s.made [] store told c (ap (λ m. record { now = m }) s.now_is) (sym (append-nil told)) is.told_is (whole_stays law store _ _ disk told c (starts_stays began folder store disk s) is)
     (first_stays law store _ _ disk told c (starts_stays began folder store disk s) is)
 
-module _ {D : Type 0} (certain : D → Type 0) (clock : D → ℕ) (left_since : D → ℕ → Cut → Type 0) (make : BatchesMakeMap) (began : Began) (folder : Folder) (told0 script : List ℕ)
+module _ {D : Type 0} (certain : D → Type 0) (clock : D → ℕ) (left_since : D → ℕ → Cut → Type 0) (make : BatchesMakeMap) (began : Start) (folder : Folder) (told0 script : List ℕ)
     (store : Stored) (line : LineInHand) (disk : Disk) (told : List ℕ) (start old new : D) (k : Carried began folder told0 script store line disk told (Steady certain clock left_since start old)) where
   -- the cuts up to the end of the line in hand
   pub line_cuts : (order : Parsed) → LeavesOnly clock left_since old new (CutIn order store (began.batches ++ numbered (began.last + 1) (written_by k.history)) (length began.batches + before_sync k.history) told)
@@ -77,13 +77,13 @@ module _ {D : Type 0} (certain : D → Type 0) (clock : D → ℕ) (left_since :
       let P : Cut → Type 0 = CutOf began (orders_of k.history) told0 in
       joins clock left_since start old new P k.cuts.leaves (widened clock left_since old new _ P (λ c i. cut_refused make began told0 k.made k.history store told c k.runs k.told_is i) leaves)
 
-module _ {D : Type 0} (certain : D → Type 0) (clock : D → ℕ) (left_since : D → ℕ → Cut → Type 0) (began : Began) (folder : Folder) (told0 script : List ℕ) where
+module _ {D : Type 0} (certain : D → Type 0) (clock : D → ℕ) (left_since : D → ℕ → Cut → Type 0) (began : Start) (folder : Folder) (told0 script : List ℕ) where
   -- so far, of a script that goes on
   pub cuts_so_far : (store : Stored) (line : LineInHand) (disk : Disk) (told : List ℕ) (start now : D) (k : Carried began folder told0 script store line disk told (Steady certain clock left_since start now)) (more : List ℕ)
       → LeavesOnly clock left_since start now (CutOf began (orders (script ++ more)) told0)
   cuts_so_far store line disk told start now k more = widened clock left_since start now _ _ (λ c o. cut_of_given began (orders_of k.history) (orders (script ++ more)) (map parsed (lines_in k.front more)) told0 c (k.cut more) o) k.cuts.leaves
 
-module _ (began : Began) (folder : Folder) (told0 : List ℕ) (steady : (Cut → Type 0) → Type 0) where
+module _ (began : Start) (folder : Folder) (told0 : List ℕ) (steady : (Cut → Type 0) → Type 0) where
   -- bytes in which no line ends
   pub pushed : (script : List ℕ) (store : Stored) (line line_next : LineInHand) (chunk : List ℕ) (disk : Disk) (told : List ℕ)
       → ((front : List ℕ) → Holds line front → Holds line_next (front ++ chunk)) → NoLineEnd chunk
@@ -151,7 +151,7 @@ module _ (began : Began) (folder : Folder) (told0 : List ℕ) (steady : (Cut →
       }
 
   -- the run breaks off as the line in hand is obeyed
-  pub line_broken : (script more : List ℕ) (store : Stored) (line : LineInHand) (order : Parsed) (disk : Disk) (told told_next : List ℕ) → Begins folder began
+  pub line_broken : (script more : List ℕ) (store : Stored) (line : LineInHand) (order : Parsed) (disk : Disk) (told told_next : List ℕ) → IsStartOf folder began
       → ((front : List ℕ) → Holds line front → order ≡ parsed (without_return front)) → TellsFront (reply_of order store.now) told told_next → (told_next ≡ told) ⊎ HasRoom order store
       → Carried began folder told0 script store line disk told steady → HasBegun folder (script ++ 10 ∷ more) told0 told_next
   line_broken script more store line order disk told told_next begins is tells room c =
@@ -162,7 +162,7 @@ module _ (began : Began) (folder : Folder) (told0 : List ℕ) (steady : (Cut →
 
   -- the line in hand would pass a limit
   pub line_full : StoresStand → BatchesMakeMap → (script more : List ℕ) (store : Stored) (line : LineInHand) (order : Parsed) (disk : Disk) (after : Folder) (told told_next : List ℕ) (limit : ℕ) (since : (Cut → Type 0) → Type 0)
-      → Begins folder began → after ≡ folder_of disk
+      → IsStartOf folder began → after ≡ folder_of disk
       → ((front : List ℕ) → Holds line front → order ≡ parsed (without_return front)) → Passes order store.last store.log.number limit → told_next ≡ told
       → (c : Carried began folder told0 script store line disk told steady) → since (CutOf began (orders_of c.history) told0) → Stops folder after (script ++ 10 ∷ more) told0 told_next limit since
   line_full stand make script more store line order disk after told told_next limit since begins stays is passes same c cuts =
@@ -196,7 +196,7 @@ module _ (began : Began) (folder : Folder) (told0 : List ℕ) (steady : (Cut →
       ∙ sym (append_assoc (orders_of c.history) (order ∷ []) (map parsed (lines_in [] more)))
 
   -- it was obeyed, and its reply could not be told whole
-  pub line_faltered : StoresStand → BatchesMakeMap → (script more : List ℕ) (store next : Stored) (line : LineInHand) (order : Parsed) (disk disk_next : Disk) (told told_next : List ℕ) → Begins folder began
+  pub line_faltered : StoresStand → BatchesMakeMap → (script more : List ℕ) (store next : Stored) (line : LineInHand) (order : Parsed) (disk disk_next : Disk) (told told_next : List ℕ) → IsStartOf folder began
       → ((front : List ℕ) → Holds line front → order ≡ parsed (without_return front)) → Obeyed order store next disk disk_next told (told ++ reply_of order store.now)
       → TellsFront (reply_of order store.now) told told_next → Carried began folder told0 script store line disk told steady → HasFaltered folder (folder_of disk_next) (script ++ 10 ∷ more) told0 told_next
   line_faltered stand make script more store next line order disk disk_next told told_next begins is o tells c =
@@ -221,13 +221,13 @@ module _ (began : Began) (folder : Folder) (told0 : List ℕ) (steady : (Cut →
       }
 
   -- the run breaks off between two bytes
-  pub broken : (script more : List ℕ) (store : Stored) (line : LineInHand) (disk : Disk) (told : List ℕ) → Begins folder began
+  pub broken : (script more : List ℕ) (store : Stored) (line : LineInHand) (disk : Disk) (told : List ℕ) → IsStartOf folder began
       → Carried began folder told0 script store line disk told steady → HasBegun folder (script ++ more) told0 told
   broken script more store line disk told begins c =
       breaks_between folder began (script ++ more) told0 told c.history (state_of store) (map parsed (lines_in c.front more)) begins (lines_fit began c.history store _ _ disk c.stays c.last_is c.number_is) (c.cut more) c.runs c.told_is
 
   -- it breaks off for what the script brings: the replies to the whole lines are told
-  pub taken : StoresStand → BatchesMakeMap → (script : List ℕ) (store : Stored) (line : LineInHand) (disk : Disk) (told : List ℕ) → Begins folder began
+  pub taken : StoresStand → BatchesMakeMap → (script : List ℕ) (store : Stored) (line : LineInHand) (disk : Disk) (told : List ℕ) → IsStartOf folder began
       → Carried began folder told0 script store line disk told steady → HasTaken folder (folder_of disk) script told0 told
   taken stand make script store line disk told begins c = record {
     began = began;

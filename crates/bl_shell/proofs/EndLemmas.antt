@@ -19,11 +19,11 @@ use Rattle.bl_store.specs.Folders.{Stands}
 use Rattle.bl_store.specs.Laws.{StoresStand, BatchesMakeMap, OlderLogsAreSynced, SyncedStoresAreLeft}
 use Rattle.bl_store.specs.Stored.{Stored, StandsOn, Carries, IsSynced}
 use Rattle.bl_shell.specs.declared.lines.LineInHand.{LineInHand}
-use Rattle.bl_shell.specs.Machine.{orders, orders_of, told_by, written_by, numbered, Began}
+use Rattle.bl_shell.specs.Machine.{orders, orders_of, told_by, written_by, numbered, Start}
 use Rattle.bl_shell.specs.Carried.{state_of, Steady, Carried, Finished}
 use Rattle.bl_shell.specs.Cuts.{IsKept, Stops}
 use Rattle.bl_shell.specs.Synced.{before_sync, CutOf}
-use Rattle.bl_shell.specs.Telling.{Begins, HasRun, HasBegun, HasFaltered}
+use Rattle.bl_shell.specs.Telling.{IsStartOf, HasRun, HasBegun, HasFaltered}
 use Rattle.bl_shell.proofs.BreakLemmas.{all_within}
 use Rattle.bl_shell.proofs.LeaveLemmas.{leaves_logs}
 use Rattle.bl_shell.proofs.LimitLemmas.{lines_fit}
@@ -34,7 +34,7 @@ in_hand : (long : Bool) (bytes front : List ℕ) → (long ≡ false → bytes �
 in_hand true bytes front kept much some none = omega (arith, much refl, ap length none)
 in_hand false bytes front kept much some none = some (refl, kept refl ∙ none)
 
-module _ (began : Began) (folder : Folder) (told0 : List ℕ) (steady : (Cut → Type 0) → Type 0) where
+module _ (began : Start) (folder : Folder) (told0 : List ℕ) (steady : (Cut → Type 0) → Type 0) where
   -- the orders of a script that ends here
   orders_here : (script : List ℕ) (store : Stored) (line : LineInHand) (disk : Disk) (told : List ℕ) (c : Carried began folder told0 script store line disk told steady)
       → orders script ≡ orders_of c.history ++ map parsed (last_line c.front)
@@ -133,8 +133,8 @@ falters_so folder after script other told0 told same f = record {
 }
 
 -- the log is synced, and the folder stands for the last map
-pub has_run : StoresStand → BatchesMakeMap → (began : Began) (folder : Folder) (script told0 : List ℕ) (store : Stored) (disk disk_next : Disk) (told : List ℕ) (steady : (Cut → Type 0) → Type 0)
-    → Begins folder began → folder_of disk_next ≡ folder_of disk → Finished began folder script told0 store disk told steady → HasRun folder (folder_of disk_next) script told0 told
+pub has_run : StoresStand → BatchesMakeMap → (began : Start) (folder : Folder) (script told0 : List ℕ) (store : Stored) (disk disk_next : Disk) (told : List ℕ) (steady : (Cut → Type 0) → Type 0)
+    → IsStartOf folder began → folder_of disk_next ≡ folder_of disk → Finished began folder script told0 store disk told steady → HasRun folder (folder_of disk_next) script told0 told
 has_run stand make began folder script told0 store disk disk_next told steady begins same f =
     record {
       began = began;
@@ -149,7 +149,7 @@ has_run stand make began folder script told0 store disk disk_next told steady be
     }
 
 -- all is told, and the log could not be synced
-pub all_begun : (began : Began) (folder : Folder) (script told0 : List ℕ) (store : Stored) (disk : Disk) (told next : List ℕ) (steady : (Cut → Type 0) → Type 0) → Begins folder began → next ≡ told
+pub all_begun : (began : Start) (folder : Folder) (script told0 : List ℕ) (store : Stored) (disk : Disk) (told next : List ℕ) (steady : (Cut → Type 0) → Type 0) → IsStartOf folder began → next ≡ told
     → Finished began folder script told0 store disk told steady → HasBegun folder script told0 next
 all_begun began folder script told0 store disk told next steady begins same f = record {
   began = began;
@@ -161,7 +161,7 @@ all_begun began folder script told0 store disk told next steady begins same f = 
   fits = all_within began f.history (lines_fit began f.history store _ _ disk f.stays f.last_is f.number_is);
 }
 
-module _ {D : Type 0} (certain : D → Type 0) (clock : D → ℕ) (left_since : D → ℕ → Cut → Type 0) (make : BatchesMakeMap) (began : Began) (folder : Folder) (script told0 : List ℕ) where
+module _ {D : Type 0} (certain : D → Type 0) (clock : D → ℕ) (left_since : D → ℕ → Cut → Type 0) (make : BatchesMakeMap) (began : Start) (folder : Folder) (script told0 : List ℕ) where
   -- the cuts while the log is synced
   pub last_cuts : (store : Stored) (disk : Disk) (told : List ℕ) (start old new : D) (f : Finished began folder script told0 store disk told (Steady certain clock left_since start old))
       → LeavesOnly clock left_since old new (LeavesFirst f.stays.older f.stays.own f.stays.synced told) → LeavesOnly clock left_since start new (CutOf began (orders script) told0)
@@ -194,8 +194,8 @@ all_synced log older own last disk whole on number is = elim (cases_lt log.numbe
 ]
 
 -- the log is synced: no cut from now on leaves another map
-pub is_kept : SyncedStoresAreLeft → BatchesMakeMap → OlderLogsAreSynced → (began : Began) (folder : Folder) (script told0 : List ℕ) (store next : Stored) (disk disk_next : Disk) (told told_next : List ℕ) (steady : (Cut → Type 0) → Type 0)
-    (certain : Type 0) (may_be : Disk → Type 0) → Begins folder began → certain → ((other : Disk) → may_be other → other ≡ disk_next) → next ≡ store
+pub is_kept : SyncedStoresAreLeft → BatchesMakeMap → OlderLogsAreSynced → (began : Start) (folder : Folder) (script told0 : List ℕ) (store next : Stored) (disk disk_next : Disk) (told told_next : List ℕ) (steady : (Cut → Type 0) → Type 0)
+    (certain : Type 0) (may_be : Disk → Type 0) → IsStartOf folder began → certain → ((other : Disk) → may_be other → other ≡ disk_next) → next ≡ store
     → ((older own : List Batch) (synced : ℕ) → Carries store older own synced disk → Carries next older own (length own) disk_next) → Finished began folder script told0 store disk told steady
     → IsKept certain may_be disk_next told_next folder script
 is_kept left make law began folder script told0 store next disk disk_next told told_next steady certain may_be begins sure only same carried f =

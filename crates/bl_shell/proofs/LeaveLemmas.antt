@@ -12,8 +12,8 @@ use Rattle.bl_store.specs.Folders.{Stands}
 use Rattle.bl_store.specs.Laws.{StoresStand, BatchesMakeMap}
 use Rattle.bl_store.specs.Logs.{after_batches}
 use Rattle.bl_store.specs.Stored.{Stored}
-use Rattle.bl_shell.specs.Machine.{Line, Runs, written_by, operations_in, numbered, reopens, reopens_in, Began}
-use Rattle.bl_shell.specs.Carried.{state_of, Keeps, Stays, Obeyed}
+use Rattle.bl_shell.specs.Machine.{Line, Runs, written_by, operations_in, numbered, reopens, reopens_in, Start}
+use Rattle.bl_shell.specs.Carried.{state_of, Keeps, IsServable, Obeyed}
 use Rattle.bl_shell.specs.Synced.{syncs, before_sync}
 use Rattle.bl_shell.specs.Telling.{LeavesLogs}
 use Rattle.bl_shell.proofs.HistoryLemmas.{runs_then, written_more, reopens_more, operations_more, numbered_more}
@@ -25,15 +25,15 @@ least_more true batches least found after writes before all same is = all ∙ ap
 least_more false batches least found after writes before all same is = same ∙ ap (λ n. found + n) (sym is)
 
 -- the store after some lines
-pub record Reached (began : Began) (folder : Folder) (history : List Line) (store : Stored) (disk : Disk) : Type 0 where
+pub record Reached (began : Start) (folder : Folder) (history : List Line) (store : Stored) (disk : Disk) : Type 0 where
   pub runs : Runs (record { now = began.now }) history (state_of store)
-  pub stays : Stays store (began.batches ++ numbered (began.last + 1) (written_by history)) (length began.batches + before_sync history) disk
+  pub stays : IsServable store (began.batches ++ numbered (began.last + 1) (written_by history)) (length began.batches + before_sync history) disk
   pub last_is : store.last ≡ began.last + operations_in (written_by history)
   pub number_is : store.log.number ≡ began.number + reopens_in history
   pub keeps : Keeps began.number folder (folder_of disk)
 
 -- and after one more
-pub reached_more : (began : Began) (folder : Folder) (history : List Line) (order : Parsed) (store next : Stored) (disk disk_next : Disk) (told told_next : List ℕ)
+pub reached_more : (began : Start) (folder : Folder) (history : List Line) (order : Parsed) (store next : Stored) (disk disk_next : Disk) (told told_next : List ℕ)
     → (o : Obeyed order store next disk disk_next told told_next) → Reached began folder history store disk → Reached began folder (history ++ o.line ∷ []) next disk_next
 reached_more began folder history order store next disk disk_next told told_next o c =
     let found = length began.batches in
@@ -41,8 +41,8 @@ reached_more began folder history order store next disk disk_next told told_next
     let writes = written_by history in
     let n = began.last + 1 in
     let first : store.last + 1 ≡ n + operations_in writes = omega (arith, c.last_is) in
-    let B : List Batch → Type 0 = λ bs. Stays next bs (found + before_sync (history ++ o.line ∷ [])) disk_next in
-    let L : ℕ → Type 0 = λ l. Stays next ((began.batches ++ numbered n writes) ++ numbered (store.last + 1) o.line.wrote) l disk_next in
+    let B : List Batch → Type 0 = λ bs. IsServable next bs (found + before_sync (history ++ o.line ∷ [])) disk_next in
+    let L : ℕ → Type 0 = λ l. IsServable next ((began.batches ++ numbered n writes) ++ numbered (store.last + 1) o.line.wrote) l disk_next in
     record {
       runs = runs_then history (o.line ∷ []) (record { now = began.now }) (state_of store) (state_of next) c.runs (state_of next, o.step, refl);
       stays = subst B
@@ -59,7 +59,7 @@ reached_more began folder history order store next disk disk_next told told_next
     }
 
 -- the folder then stands for the map after them
-pub leaves_logs : StoresStand → BatchesMakeMap → (began : Began) (folder after : Folder) (history : List Line) (store : Stored) (disk : Disk) → after ≡ folder_of disk
+pub leaves_logs : StoresStand → BatchesMakeMap → (began : Start) (folder after : Folder) (history : List Line) (store : Stored) (disk : Disk) → after ≡ folder_of disk
     → Reached began folder history store disk → LeavesLogs folder after began history store.now
 leaves_logs stand make began folder after history store disk same r =
     let all = began.batches ++ numbered (began.last + 1) (written_by history) in

@@ -6,6 +6,7 @@ mod CutLemmas
 mod EndLemmas
 mod HistoryLemmas
 mod LeaveLemmas
+mod LawLemmas
 mod LimitLemmas
 mod LineLemmas
 mod MomentLemmas

@@ -26,3 +26,8 @@ pub no_limit : (x : SiteErr) (limit : ℕ) → stop_of x ≡ stop.Full limit →
 no_limit failed.DiskFailed limit is = cc is
 no_limit failed.TellFailed limit is = cc is
 no_limit failed.OutOfMemory limit is = cc is
+
+pub no_corrupt : (x : SiteErr) (name : List ℕ) (place : ℕ) → stop_of x ≡ stop.Corrupt name place → ⊥
+no_corrupt failed.DiskFailed name place is = cc is
+no_corrupt failed.TellFailed name place is = cc is
+no_corrupt failed.OutOfMemory name place is = cc is

@@ -4,35 +4,35 @@ use Rattle.std.specs.FinMap.{empty}
 use Rattle.bl_site.specs.Disk.{Name, Folder, Disk, folder_of}
 use Rattle.bl_store.specs.declared.error.StoreErr.{StoreErr}
 use Rattle.bl_store.specs.declared.error.StoreErr.TheVariants as store
-use Rattle.bl_store.specs.Causes.{IsOpening as IsStoreOpening, IsRefusal as IsStoreRefusal}
+use Rattle.bl_store.specs.Causes.{IsOpening as IsStoreOpening, IsUntouched as IsUntouchedStore}
 use Rattle.bl_store.specs.Damage.{IsDamaged}
 use Rattle.bl_store.specs.Folders.{Stands}
 use Rattle.bl_store.specs.Laws.{BatchesMakeMap}
 use Rattle.bl_store.specs.Logs.{after_batches}
 use Rattle.bl_store.specs.Stored.{Stored, Opens, HasNextLog}
-use Rattle.bl_shell.specs.Machine.{Began}
+use Rattle.bl_shell.specs.Machine.{Start}
 use Rattle.bl_shell.specs.declared.stop.Stop.{Stop}
 use Rattle.bl_shell.specs.declared.stop.Stop.TheVariants as stop
 use Rattle.bl_shell.specs.declared.status.Status.{Status}
 use Rattle.bl_shell.specs.declared.status.Status.TheVariants.{Done, Words, ReadFault, Long, TellFault, DiskFault, OutOfMemory, Corrupt, Full}
-use Rattle.bl_shell.specs.Causes.{IsForScript, IsInner, IsReading, IsSilent, IsOpening, IsRefusal, MayEnd, EndsAs, status_of, stop_of_store}
-use Rattle.bl_shell.specs.Carried.{Starts, TellsFront}
+use Rattle.bl_shell.specs.Causes.{IsForScript, IsNotOfScript, IsReading, IsSilent, IsOpening, IsOfDamaged, MayEnd, EndsAs, status_of, stop_of_store}
+use Rattle.bl_shell.specs.Carried.{StandsAtStart, TellsFront}
 use Rattle.bl_shell.specs.Cuts.{IsPastOpening, StopsBeforeScript}
-use Rattle.bl_shell.specs.Telling.{Begins, HasBegun, HasFaltered, HasEnded, PassesIn, IsFull, corrupt_line, full_line}
+use Rattle.bl_shell.specs.Telling.{IsStartOf, HasBegun, HasFaltered, HasEnded, PassesIn, IsFull, corrupt_line, full_line}
 use Rattle.bl_store.proofs.OtherLemmas.{same_no_next}
 use Rattle.bl_shell.proofs.BreakLemmas.{breaks_in}
 use Rattle.bl_shell.proofs.LimitLemmas.{ends}
 use Rattle.bl_shell.proofs.TellLemmas.{tells_nothing}
 
 -- where a run begins that opened this store
-pub began_of : (folder : Folder) (store : Stored) (disk : Disk) → Opens folder store disk → Began
+pub began_of : (folder : Folder) (store : Stored) (disk : Disk) → Opens folder store disk → Start
 began_of folder store disk o = record { batches = o.batches; last = store.last; now = store.now; number = store.log.number }
 
 module _ (folder : Folder) (store : Stored) (disk : Disk) (o : Opens folder store disk) where
   pub stands_open : Stands folder o.batches store.last
   stands_open = record { only = o.only; have = o.had }
 
-  pub begins_open : BatchesMakeMap → Begins folder (began_of folder store disk o)
+  pub begins_open : BatchesMakeMap → IsStartOf folder (began_of folder store disk o)
   unfolding began_of
   begins_open makes = record {
     stands = stands_open;
@@ -40,7 +40,7 @@ module _ (folder : Folder) (store : Stored) (disk : Disk) (o : Opens folder stor
     next = o.next;
   }
 
-  pub starts_open : store.broken ≡ false → Starts (began_of folder store disk o) folder store disk
+  pub starts_open : store.broken ≡ false → StandsAtStart (began_of folder store disk o) folder store disk
   unfolding began_of
   starts_open usable = record {
     stays = record { usable = usable; whole = o.whole; older = o.batches; own = []; synced = 0; carries = o.carries; all = append-nil o.batches; at_least = omega arith };
@@ -190,7 +190,7 @@ module _ (folder after : Folder) (script told mid next : List ℕ) (status : Sta
       inr (full_ended f.0 limit f.1 f.2 (of_front Full (full_line limit) is (λ e. cc e) (fulls limit refl)))
 
 -- where an inner stop ends a run, its status is none of one that has read
-not_for_script : (s : Stop) → IsInner s → IsForScript (status_of s) → ⊥
+not_for_script : (s : Stop) → IsNotOfScript s → IsForScript (status_of s) → ⊥
 not_for_script stop.Read inner read = inner
 not_for_script stop.Tell inner read = read
 not_for_script stop.Disk inner read = read
@@ -199,14 +199,14 @@ not_for_script stop.Long inner read = inner
 not_for_script (stop.Corrupt name place) inner read = read
 not_for_script (stop.Full limit) inner read = read
 
-unread_status : (s : Stop) (status : Status) → IsInner s → MayEnd s status → IsForScript status → ⊥
+unread_status : (s : Stop) (status : Status) → IsNotOfScript s → MayEnd s status → IsForScript status → ⊥
 unread_status s status inner may read = elim may [
   | inl is ↦ not_for_script s inner (subst IsForScript is read)
   | inr more ↦ elim more [ inl is ↦ subst IsForScript is read | inr is ↦ subst IsForScript is read ]
 ]
 
 -- a run that was stopped before it read anything is past its opening where the next log was made
-pub only_made : (s : Stop) (status : Status) (left left_after : List ℕ) (made : Type 0) → IsInner s → MayEnd s status → left_after ≡ left → IsPastOpening status left left_after ⊎ made → made
+pub only_made : (s : Stop) (status : Status) (left left_after : List ℕ) (made : Type 0) → IsNotOfScript s → MayEnd s status → left_after ≡ left → IsPastOpening status left left_after ⊎ made → made
 only_made s status left left_after made inner may same past = elim past [
   | inl read ↦ elim read [ inl is ↦ absurd (unread_status s status inner may is) | inr ne ↦ absurd (ne same) ]
   | inr is ↦ is
@@ -221,7 +221,7 @@ words_are_not_past folder disk status left left_after made as_it_was is same nex
 ]
 
 -- a stop of the opening: at one with a line the folder reads as it did
-pub not_opened : (e : StoreErr) (folder : Folder) (disk : Disk) → (IsStoreRefusal e → folder_of disk ≡ folder) → StopsBeforeScript folder disk (stop_of_store e)
+pub not_opened : (e : StoreErr) (folder : Folder) (disk : Disk) → (IsUntouchedStore e → folder_of disk ≡ folder) → StopsBeforeScript folder disk (stop_of_store e)
 not_opened store.Disk folder disk same = (tt, inl tt)
 not_opened store.OutOfMemory folder disk same = (tt, inl tt)
 not_opened (store.Corrupt name place) folder disk same = (tt, inr (same_no_next folder disk (sym (same tt))))
@@ -287,7 +287,7 @@ corrupt_told status name place told mid next is ends same = elim ends [
   | inr more ↦ elim more [ inl some ↦ absurd (cc (some.0, is)) | inr none ↦ absurd (cc (none.0, is)) ]
 ]
 
-refused_as : (s : Stop) (status : Status) → IsOpening s → status ≡ status_of s → IsRefusal status
+refused_as : (s : Stop) (status : Status) → IsOpening s → status ≡ status_of s → IsOfDamaged status
 refused_as stop.Read status is same = absurd is
 refused_as stop.Tell status is same = absurd is
 refused_as stop.Disk status is same = inr (inl same)
@@ -297,14 +297,14 @@ refused_as (stop.Corrupt name place) status is same = inl same
 refused_as (stop.Full limit) status is same = absurd is
 
 -- a stop of the opening ends a run so
-pub refused : (s : Stop) (status : Status) → IsOpening s → MayEnd s status → IsRefusal status
+pub refused : (s : Stop) (status : Status) → IsOpening s → MayEnd s status → IsOfDamaged status
 refused s status opening may = elim may [
   | inl same ↦ refused_as s status opening same
   | inr more ↦ elim more [ inl other ↦ inr (inr (inl other)) | inr other ↦ inr (inr (inr other)) ]
 ]
 
 -- a folder of a log of the greatest number ends a run so, or at the limit
-pub at_the_limit : (s : Stop) (status : Status) → IsOpening s ⊎ (s ≡ stop.Full (10 ^ 15)) → MayEnd s status → (status ≡ Full) ⊎ IsRefusal status
+pub at_the_limit : (s : Stop) (status : Status) → IsOpening s ⊎ (s ≡ stop.Full (10 ^ 15)) → MayEnd s status → (status ≡ Full) ⊎ IsOfDamaged status
 at_the_limit s status how may = elim how [
   | inl opening ↦ inr (refused s status opening may)
   | inr limit ↦ elim may [

@@ -8,18 +8,18 @@ use Rattle.bl_script.specs.declared.command.Parsed.{Parsed}
 use Rattle.bl_wal.specs.LogFile.{log_name}
 use Rattle.bl_store.specs.Folders.{Stands, IsNext}
 use Rattle.bl_store.specs.Damage.{IsDamaged}
-use Rattle.bl_shell.specs.Machine.{State, Line, IsHistory, Runs, orders, whole_orders, orders_of, told_by, written_by, operations_in, numbered, reopens_in, Began, Fits}
+use Rattle.bl_shell.specs.Machine.{State, Line, IsHistory, Runs, orders, whole_orders, orders_of, told_by, written_by, operations_in, numbered, reopens_in, Start, Fits}
 use Rattle.bl_shell.specs.Synced.{whole_within}
 use Rattle.bl_shell.specs.Carried.{Keeps, TellsFront, Passes}
 
 -- A run begins on a folder of logs, whose batches make the map. Its first log is the next one.
-pub record Begins (folder : Folder) (began : Began) : Type 0 where
+pub record IsStartOf (folder : Folder) (began : Start) : Type 0 where
   pub stands : Stands folder began.batches began.last
   pub map_is : IsMapAt (revisions_of began.batches) began.last began.now
   pub next : IsNext folder began.number
 
 -- The folder left has logs of the batches found and, behind them, one batch for each write of these lines, and they make this map. The log in use is the last of those made, one for each opening; all other files are as they were.
-pub record LeavesLogs (folder folder_after : Folder) (began : Began) (history : List Line) (now : Map) : Type 0 where
+pub record LeavesLogs (folder folder_after : Folder) (began : Start) (history : List Line) (now : Map) : Type 0 where
   pub stands : Stands folder_after (began.batches ++ numbered (began.last + 1) (written_by history)) (began.last + operations_in (written_by history))
   pub map_is : IsMapAt (revisions_of (began.batches ++ numbered (began.last + 1) (written_by history))) (began.last + operations_in (written_by history)) now
   pub has_number : IsNumber (began.number + reopens_in history)
@@ -29,8 +29,8 @@ pub record LeavesLogs (folder folder_after : Folder) (began : Began) (history : 
 
 -- The replies to the whole script were told, and the folder left stands for the last map.
 pub record HasRun (folder folder_after : Folder) (script told told_after : List ℕ) : Type 0 where
-  pub began : Began
-  pub begins : Begins folder began
+  pub began : Start
+  pub begins : IsStartOf folder began
   pub history : List Line
   pub last : State
   pub is_history : IsHistory began.now (orders script) history last
@@ -40,8 +40,8 @@ pub record HasRun (folder folder_after : Folder) (script told told_after : List 
 
 -- The replies to all whole lines among the bytes taken were told. These lines pass no limit, and the folder left stands for the map after them.
 pub record HasTaken (folder folder_after : Folder) (taken told told_after : List ℕ) : Type 0 where
-  pub began : Began
-  pub begins : Begins folder began
+  pub began : Start
+  pub begins : IsStartOf folder began
   pub history : List Line
   pub last : State
   pub is_history : IsHistory began.now (whole_orders taken) history last
@@ -51,8 +51,8 @@ pub record HasTaken (folder folder_after : Folder) (taken told told_after : List
 
 -- A front of the replies to the script was told. The lines whose replies lie whole in it pass no limit.
 pub record HasBegun (folder : Folder) (script told told_after : List ℕ) : Type 0 where
-  pub began : Began
-  pub begins : Begins folder began
+  pub began : Start
+  pub begins : IsStartOf folder began
   pub history : List Line
   pub last : State
   pub is_history : IsHistory began.now (orders script) history last
@@ -61,8 +61,8 @@ pub record HasBegun (folder : Folder) (script told told_after : List ℕ) : Type
 
 -- The reply to a line could not be told whole: those to the lines before it were told, and a front of it. The line was obeyed all the same, and the folder left stands for the map after it.
 pub record HasFaltered (folder folder_after : Folder) (script told told_after : List ℕ) : Type 0 where
-  pub began : Began
-  pub begins : Begins folder began
+  pub began : Start
+  pub begins : IsStartOf folder began
   pub history : List Line
   pub line : Line
   pub rest : List Parsed
@@ -82,8 +82,8 @@ full_line number = codes "error full " ++ decimal number ++ codes "\n"
 
 -- The line in hand is the first that would pass a limit: these are the replies to the lines before it, and the folder left stands for the map after them.
 pub record PassesIn (folder folder_after : Folder) (script replies : List ℕ) (limit : ℕ) : Type 0 where
-  pub began : Began
-  pub begins : Begins folder began
+  pub began : Start
+  pub begins : IsStartOf folder began
   pub history : List Line
   pub mid : State
   pub order : Parsed

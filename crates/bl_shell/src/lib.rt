@@ -2,6 +2,7 @@
 #![tactic(auto)]
 
 mod batch;
+mod laws;
 mod lines;
 mod obey;
 mod scan;
@@ -10,5 +11,6 @@ mod status;
 mod stop;
 mod top;
 
+pub use laws::{no_reply_is_before_the_barrier, told_syncs_are_kept};
 pub use status::Status;
 pub use top::run;

@@ -13,8 +13,8 @@ ghost use Rattle.bl_wal.specs.Held.{Batches};
 ghost use Rattle.bl_store.specs.Pairs.{pairs_between};
 ghost use Rattle.bl_store.specs.Stored.{KeepsOthers};
 ghost use Rattle.bl_shell.specs.Machine.{writes_of, reply_of, reply};
-ghost use Rattle.bl_shell.specs.Carried.{Stays, TellsFront, Obeyed, Passes, HasRoom, IsWrite, IsTold, CutIn, CutTelling};
-ghost use Rattle.bl_shell.specs.Causes.{IsInner, IsSilent};
+ghost use Rattle.bl_shell.specs.Carried.{IsServable, TellsFront, Obeyed, Passes, HasRoom, IsWrite, IsTold, CutIn, CutTelling};
+ghost use Rattle.bl_shell.specs.Causes.{IsNotOfScript, IsSilent};
 
 use crate::batch::{batch_of, batch_of_del, batch_of_put};
 use crate::scan::tell_pairs;
@@ -33,7 +33,7 @@ fn do_write<S: Site>(
     site: &mut S,
 ) -> Result<(), Stop>
     requires usable { store.old.broken ≡ false }
-    requires there { S.shows → (batches : Batches) × ((least : ℕ) × Stays store.old batches least (S.disk site.old)) }
+    requires there { S.shows → (batches : Batches) × ((least : ℕ) × IsServable store.old batches least (S.disk site.old)) }
     ensures usable { OnOk result (store.new.broken ≡ false) }
     ensures ok { S.shows → OnOk result ((order : Parsed) → IsWrite order batch.now → Obeyed order store.old store.new (S.disk site.old) (S.disk site.new) (S.told site.old) (S.told site.new)) }
     ensures front { S.shows → IfErr result (λ e. IsSilent e → TellsFront ok_line (S.told site.old) (S.told site.new)) }
@@ -45,11 +45,11 @@ fn do_write<S: Site>(
     ensures disk { IsErrOf result Stop.Disk → Rose (S.disk_faults site.old) (S.disk_faults site.new) }
     ensures tell { IsErrOf result Stop.Tell → Rose (S.tell_faults site.old) (S.tell_faults site.new) }
     ensures others { S.shows → KeepsOthers (S.disk site.old) (S.disk site.new) }
-    ensures causes { IfErr result IsInner }
+    ensures causes { IfErr result IsNotOfScript }
     ensures certain { S.shows → OnOk result (S.certain site.old → S.certain site.new) }
-    ensures cuts { S.shows → S.certain site.old → (order : Parsed) → IsWrite order batch.now → (batches : Batches) (least : ℕ) → Stays store.old batches least (S.disk site.old)
+    ensures cuts { S.shows → S.certain site.old → (order : Parsed) → IsWrite order batch.now → (batches : Batches) (least : ℕ) → IsServable store.old batches least (S.disk site.old)
         → LeavesOnly S.clock S.left_since site.old site.new (CutIn order store.old batches least (S.told site.old)) }
-    ensures full_cuts { S.shows → S.certain site.old → (limit : ℕ) → result ≡ Err (Stop.Full limit) → (batches : Batches) (least : ℕ) → Stays store.old batches least (S.disk site.old)
+    ensures full_cuts { S.shows → S.certain site.old → (limit : ℕ) → result ≡ Err (Stop.Full limit) → (batches : Batches) (least : ℕ) → IsServable store.old batches least (S.disk site.old)
         → LeavesOnly S.clock S.left_since site.old site.new (CutIn Parsed.Nothing store.old batches least (S.told site.old)) }
     ensures later { (S.disk_faults site.old ≤ S.disk_faults site.new) × (S.tell_faults site.old ≤ S.tell_faults site.new) }
 {
@@ -78,7 +78,7 @@ fn do_tell<S: Site>(store: &Store, reply: &[u8], site: &mut S) -> Result<(), Sto
 // The log is synced, and the reply told.
 fn do_sync<S: Site>(store: &mut Store, site: &mut S) -> Result<(), Stop>
     requires usable { store.old.broken ≡ false }
-    requires there { S.shows → (batches : Batches) × ((least : ℕ) × Stays store.old batches least (S.disk site.old)) }
+    requires there { S.shows → (batches : Batches) × ((least : ℕ) × IsServable store.old batches least (S.disk site.old)) }
     ensures usable { OnOk result (store.new.broken ≡ false) }
     ensures ok { S.shows → OnOk result (Obeyed (Parsed.Go Command.Sync) store.old store.new (S.disk site.old) (S.disk site.new) (S.told site.old) (S.told site.new)) }
     ensures front { S.shows → IfErr result (λ e. IsSilent e → TellsFront (reply_of (Parsed.Go Command.Sync) store.old.now) (S.told site.old) (S.told site.new)) }
@@ -89,11 +89,11 @@ fn do_sync<S: Site>(store: &mut Store, site: &mut S) -> Result<(), Stop>
     ensures disk { IsErrOf result Stop.Disk → Rose (S.disk_faults site.old) (S.disk_faults site.new) }
     ensures tell { IsErrOf result Stop.Tell → Rose (S.tell_faults site.old) (S.tell_faults site.new) }
     ensures others { S.shows → KeepsOthers (S.disk site.old) (S.disk site.new) }
-    ensures causes { IfErr result IsInner }
+    ensures causes { IfErr result IsNotOfScript }
     ensures certain { S.shows → OnOk result (S.certain site.old → S.certain site.new) }
-    ensures cuts { S.shows → S.certain site.old → (batches : Batches) (least : ℕ) → Stays store.old batches least (S.disk site.old)
+    ensures cuts { S.shows → S.certain site.old → (batches : Batches) (least : ℕ) → IsServable store.old batches least (S.disk site.old)
         → LeavesOnly S.clock S.left_since site.old site.new (CutIn (Parsed.Go Command.Sync) store.old batches least (S.told site.old)) }
-    ensures full_cuts { S.shows → S.certain site.old → (limit : ℕ) → result ≡ Err (Stop.Full limit) → (batches : Batches) (least : ℕ) → Stays store.old batches least (S.disk site.old)
+    ensures full_cuts { S.shows → S.certain site.old → (limit : ℕ) → result ≡ Err (Stop.Full limit) → (batches : Batches) (least : ℕ) → IsServable store.old batches least (S.disk site.old)
         → LeavesOnly S.clock S.left_since site.old site.new (CutIn Parsed.Nothing store.old batches least (S.told site.old)) }
     ensures later { (S.disk_faults site.old ≤ S.disk_faults site.new) × (S.tell_faults site.old ≤ S.tell_faults site.new) }
 {
@@ -106,7 +106,7 @@ fn do_sync<S: Site>(store: &mut Store, site: &mut S) -> Result<(), Stop>
 // The store is opened anew, and the reply told.
 fn do_reopen<S: Site>(store: &mut Store, alloc: Global, site: &mut S) -> Result<(), Stop>
     requires usable { store.old.broken ≡ false }
-    requires there { S.shows → (batches : Batches) × ((least : ℕ) × Stays store.old batches least (S.disk site.old)) }
+    requires there { S.shows → (batches : Batches) × ((least : ℕ) × IsServable store.old batches least (S.disk site.old)) }
     ensures usable { OnOk result (store.new.broken ≡ false) }
     ensures ok { S.shows → OnOk result (Obeyed (Parsed.Go Command.Reopen) store.old store.new (S.disk site.old) (S.disk site.new) (S.told site.old) (S.told site.new)) }
     ensures front { S.shows → IfErr result (λ e. IsSilent e → TellsFront (reply_of (Parsed.Go Command.Reopen) store.old.now) (S.told site.old) (S.told site.new)) }
@@ -118,11 +118,11 @@ fn do_reopen<S: Site>(store: &mut Store, alloc: Global, site: &mut S) -> Result<
     ensures disk { IsErrOf result Stop.Disk → Rose (S.disk_faults site.old) (S.disk_faults site.new) }
     ensures tell { IsErrOf result Stop.Tell → Rose (S.tell_faults site.old) (S.tell_faults site.new) }
     ensures others { S.shows → KeepsOthers (S.disk site.old) (S.disk site.new) }
-    ensures causes { IfErr result IsInner }
+    ensures causes { IfErr result IsNotOfScript }
     ensures certain { S.shows → OnOk result (S.certain site.old → S.certain site.new) }
-    ensures cuts { S.shows → S.certain site.old → (batches : Batches) (least : ℕ) → Stays store.old batches least (S.disk site.old)
+    ensures cuts { S.shows → S.certain site.old → (batches : Batches) (least : ℕ) → IsServable store.old batches least (S.disk site.old)
         → LeavesOnly S.clock S.left_since site.old site.new (CutIn (Parsed.Go Command.Reopen) store.old batches least (S.told site.old)) }
-    ensures full_cuts { S.shows → S.certain site.old → (limit : ℕ) → result ≡ Err (Stop.Full limit) → (batches : Batches) (least : ℕ) → Stays store.old batches least (S.disk site.old)
+    ensures full_cuts { S.shows → S.certain site.old → (limit : ℕ) → result ≡ Err (Stop.Full limit) → (batches : Batches) (least : ℕ) → IsServable store.old batches least (S.disk site.old)
         → LeavesOnly S.clock S.left_since site.old site.new (CutIn Parsed.Nothing store.old batches least (S.told site.old)) }
     ensures later { (S.disk_faults site.old ≤ S.disk_faults site.new) × (S.tell_faults site.old ≤ S.tell_faults site.new) }
 {
@@ -130,6 +130,7 @@ fn do_reopen<S: Site>(store: &mut Store, alloc: Global, site: &mut S) -> Result<
     stores_stand();
     damaged_do_not_stand();
     batches_are_once();
+    store.let_go(alloc);
     *store = Store::open_site(alloc, site)?;
     site.tell(b"ok\n")?;
     Ok(())
@@ -144,7 +145,7 @@ fn do_command<S: Site>(
 ) -> Result<(), Stop>
     requires within { IsCommand command }
     requires usable { store.old.broken ≡ false }
-    requires there { S.shows → (batches : Batches) × ((least : ℕ) × Stays store.old batches least (S.disk site.old)) }
+    requires there { S.shows → (batches : Batches) × ((least : ℕ) × IsServable store.old batches least (S.disk site.old)) }
     ensures usable { OnOk result (store.new.broken ≡ false) }
     ensures ok { S.shows → OnOk result (Obeyed (Parsed.Go command) store.old store.new (S.disk site.old) (S.disk site.new) (S.told site.old) (S.told site.new)) }
     ensures front { S.shows → IfErr result (λ e. IsSilent e → TellsFront (reply_of (Parsed.Go command) store.old.now) (S.told site.old) (S.told site.new)) }
@@ -156,11 +157,11 @@ fn do_command<S: Site>(
     ensures disk { IsErrOf result Stop.Disk → Rose (S.disk_faults site.old) (S.disk_faults site.new) }
     ensures tell { IsErrOf result Stop.Tell → Rose (S.tell_faults site.old) (S.tell_faults site.new) }
     ensures others { S.shows → KeepsOthers (S.disk site.old) (S.disk site.new) }
-    ensures causes { IfErr result IsInner }
+    ensures causes { IfErr result IsNotOfScript }
     ensures certain { S.shows → OnOk result (S.certain site.old → S.certain site.new) }
-    ensures cuts { S.shows → S.certain site.old → (batches : Batches) (least : ℕ) → Stays store.old batches least (S.disk site.old)
+    ensures cuts { S.shows → S.certain site.old → (batches : Batches) (least : ℕ) → IsServable store.old batches least (S.disk site.old)
         → LeavesOnly S.clock S.left_since site.old site.new (CutIn (Parsed.Go command) store.old batches least (S.told site.old)) }
-    ensures full_cuts { S.shows → S.certain site.old → (limit : ℕ) → result ≡ Err (Stop.Full limit) → (batches : Batches) (least : ℕ) → Stays store.old batches least (S.disk site.old)
+    ensures full_cuts { S.shows → S.certain site.old → (limit : ℕ) → result ≡ Err (Stop.Full limit) → (batches : Batches) (least : ℕ) → IsServable store.old batches least (S.disk site.old)
         → LeavesOnly S.clock S.left_since site.old site.new (CutIn Parsed.Nothing store.old batches least (S.told site.old)) }
     ensures later { (S.disk_faults site.old ≤ S.disk_faults site.new) × (S.tell_faults site.old ≤ S.tell_faults site.new) }
 {
@@ -198,7 +199,7 @@ pub(crate) fn obey<S: Site>(
 ) -> Result<(), Stop>
     requires within { IsWithinLimits order }
     requires usable { store.old.broken ≡ false }
-    requires there { S.shows → (batches : Batches) × ((least : ℕ) × Stays store.old batches least (S.disk site.old)) }
+    requires there { S.shows → (batches : Batches) × ((least : ℕ) × IsServable store.old batches least (S.disk site.old)) }
     ensures usable { OnOk result (store.new.broken ≡ false) }
     ensures ok { S.shows → OnOk result (Obeyed order store.old store.new (S.disk site.old) (S.disk site.new) (S.told site.old) (S.told site.new)) }
     ensures front { S.shows → IfErr result (λ e. IsSilent e → TellsFront (reply_of order store.old.now) (S.told site.old) (S.told site.new)) }
@@ -210,11 +211,11 @@ pub(crate) fn obey<S: Site>(
     ensures disk { IsErrOf result Stop.Disk → Rose (S.disk_faults site.old) (S.disk_faults site.new) }
     ensures tell { IsErrOf result Stop.Tell → Rose (S.tell_faults site.old) (S.tell_faults site.new) }
     ensures others { S.shows → KeepsOthers (S.disk site.old) (S.disk site.new) }
-    ensures causes { IfErr result IsInner }
+    ensures causes { IfErr result IsNotOfScript }
     ensures certain { S.shows → OnOk result (S.certain site.old → S.certain site.new) }
-    ensures cuts { S.shows → S.certain site.old → (batches : Batches) (least : ℕ) → Stays store.old batches least (S.disk site.old)
+    ensures cuts { S.shows → S.certain site.old → (batches : Batches) (least : ℕ) → IsServable store.old batches least (S.disk site.old)
         → LeavesOnly S.clock S.left_since site.old site.new (CutIn order store.old batches least (S.told site.old)) }
-    ensures full_cuts { S.shows → S.certain site.old → (limit : ℕ) → result ≡ Err (Stop.Full limit) → (batches : Batches) (least : ℕ) → Stays store.old batches least (S.disk site.old)
+    ensures full_cuts { S.shows → S.certain site.old → (limit : ℕ) → result ≡ Err (Stop.Full limit) → (batches : Batches) (least : ℕ) → IsServable store.old batches least (S.disk site.old)
         → LeavesOnly S.clock S.left_since site.old site.new (CutIn Parsed.Nothing store.old batches least (S.told site.old)) }
     ensures later { (S.disk_faults site.old ≤ S.disk_faults site.new) × (S.tell_faults site.old ≤ S.tell_faults site.new) }
 {

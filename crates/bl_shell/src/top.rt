@@ -8,7 +8,7 @@ ghost use Rattle.bl_wal.specs.LogFile.{log_name};
 ghost use Rattle.bl_store.specs.Cuts.{AreWhole};
 ghost use Rattle.bl_store.specs.Damage.{IsDamaged};
 ghost use Rattle.bl_store.specs.Stored.{KeepsOthers, HasNextLog};
-ghost use Rattle.bl_shell.specs.Causes.{IsInner, IsOpening, IsReading, IsRefusal, IsSilent, TookOver, status_of, MayEnd, EndsAs};
+ghost use Rattle.bl_shell.specs.Causes.{IsNotOfScript, IsOpening, IsReading, IsOfDamaged, IsSilent, TookOver, status_of, MayEnd, EndsAs};
 ghost use Rattle.bl_shell.specs.Carried.{TellsFront};
 ghost use Rattle.bl_shell.specs.Cuts.{CutInRun, CutOfRun, CutPast, CutStands, FromSomeMoment, StopsBeforeScript, HasStopped, IsKept, IsPastOpening, StopsRun, TellsError, as_it_reads};
 ghost use Rattle.bl_shell.specs.Machine.{orders};
@@ -214,8 +214,8 @@ pub fn run<R: Source, S: Site>(
     ensures others { S.shows → KeepsOthers (S.disk site.old) (S.disk site.new) }
 
     // A fault in the folder ends the run before its first line, and so does a log of the greatest number.
-    ensures damaged { S.shows → (name : Name) (place : ℕ) → IsDamaged (folder_of (S.disk site.old)) name place → (result ≡ Status.Words) ⊎ IsRefusal result }
-    ensures limit { S.shows → IsSome (folder_of (S.disk site.old) (log_name (10 ^ 15 - 1))) → (result ≡ Status.Words) ⊎ (result ≡ Status.Full) ⊎ IsRefusal result }
+    ensures damaged { S.shows → (name : Name) (place : ℕ) → IsDamaged (folder_of (S.disk site.old)) name place → (result ≡ Status.Words) ⊎ IsOfDamaged result }
+    ensures limit { S.shows → IsSome (folder_of (S.disk site.old) (log_name (10 ^ 15 - 1))) → (result ≡ Status.Words) ⊎ (result ≡ Status.Full) ⊎ IsOfDamaged result }
 
     // Words are refused, and nothing else is done.
     ensures words { (result ≡ Status.Words) ↔ (0 < length words.now) }

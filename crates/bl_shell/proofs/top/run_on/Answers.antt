@@ -3,7 +3,7 @@ use Rattle.std.proofs.lemmas.Result.{err_from_is_err_and}
 use Rattle.bl_site.specs.Disk.{folder_of}
 use Rattle.bl_site.proofs.Moments.{widened, cut_of_only}
 use Rattle.bl_store.specs.declared.error.StoreErr.TheVariants as store
-use Rattle.bl_store.specs.Causes.{IsRefusal}
+use Rattle.bl_store.specs.Causes.{IsUntouched}
 use Rattle.bl_shell.specs.Causes.{IsOpening, stop_of_store}
 use Rattle.bl_shell.specs.Cuts.{CutPast, FromSomeMoment, StopsBeforeScript}
 use Rattle.bl_shell.specs.Machine.{orders}
@@ -23,7 +23,7 @@ returns-in_err-store-clause-full g c = λ shown known limit is.
     let f = c.in_err-store.ensures.full shown limit (ap Err e) in
     record {
       replies = [];
-      full = inl (record { greatest = f.1; batches = f.2.0; last = f.2.1.0; stands = f.2.1.1; same = c.in_err-store.ensures.same shown (subst IsRefusal (sym e) tt); none_told = refl; limit_is = f.0 });
+      full = inl (record { greatest = f.1; batches = f.2.0; last = f.2.1.0; stands = f.2.1.1; same = c.in_err-store.ensures.same shown (subst IsUntouched (sym e) tt); none_told = refl; limit_is = f.0 });
       told_is = c.in_err-store.ensures.told shown ∙ sym (append-nil (g.S.Site.told c.args.site.now));
       cuts = widened g.S.Site.clock g.S.Site.left_since c.args.site.now c.open_site.new.site _ _ (λ cut b. inl b) (c.open_site.ensures.before shown);
     }
@@ -32,7 +32,7 @@ pub returns-in_err-store-clause-corrupt : goal.returns-in_err-store-clause-corru
 returns-in_err-store-clause-corrupt g c = λ shown name place is.
     let p = err_from_is_err_and c.from_residual-in_err-store.result c.from_residual-in_err-store.ensures.1 in
     let e : c.in_err-store.field-0.0 ≡ store.Corrupt name place = stop_corrupt c.in_err-store.field-0.0 name place (cc (is, p.1, p.2)) in
-    (c.in_err-store.ensures.corrupt shown name place (ap Err e), c.in_err-store.ensures.told shown, c.in_err-store.ensures.same shown (subst IsRefusal (sym e) tt))
+    (c.in_err-store.ensures.corrupt shown name place (ap Err e), c.in_err-store.ensures.told shown, c.in_err-store.ensures.same shown (subst IsUntouched (sym e) tt))
 
 pub returns-in_err-store-clause-damaged : goal.returns-in_err-store-clause-damaged
 returns-in_err-store-clause-damaged g c =
