@@ -114,7 +114,7 @@ spread : {A : Type 0} (t : Bool) (y : A) (zs ws : List A) → cond t (y ∷ (zs 
 spread true y zs ws = refl
 spread false y zs ws = refl
 
-filter_push : {A : Type 0} (p : A → Bool) (ys : List A) (x : A) → filter p (ys ++ x ∷ []) ≡ filter p ys ++ cond (p x) (x ∷ []) []
+pub filter_push : {A : Type 0} (p : A → Bool) (ys : List A) (x : A) → filter p (ys ++ x ∷ []) ≡ filter p ys ++ cond (p x) (x ∷ []) []
 filter_push p [] x = refl
 filter_push p (y ∷ ys) x = ap (λ zs. cond (p y) (y ∷ zs) zs) (filter_push p ys x) ∙ spread (p y) y (filter p ys) (cond (p x) (x ∷ []) [])
 

@@ -23,5 +23,5 @@ pub use laws::versions_reach_exactly;
 pub use meta::{BlobMeta, Standing};
 pub use plan::CompactionPlan;
 pub use snapshot::snapshot_edit;
-pub use step::apply;
+pub use step::{advance, apply};
 pub use version::Version;

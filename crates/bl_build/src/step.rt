@@ -14,7 +14,7 @@ use crate::checks::{first_blob_twice, first_table_twice, first_unknown};
 use crate::error::{BadVersion, BuildErr};
 use crate::meta::BlobMeta;
 use crate::overlap::first_overlap;
-use crate::table::{copied, copies, deleted_rank, rank_of};
+use crate::table::{copied, deleted_rank, rank_of};
 use crate::version::Version;
 use bl_edit::{BlobAddition, DeletedTable, Edit, NewTable};
 use std::alloc::Global;
@@ -26,34 +26,49 @@ use std::collections::BTreeSet;
 /// The refusals are tested in the order in which `BadVersion` has them, each over the whole edit. `OutOfMemory`
 /// comes where memory runs out, which may be before a refusal is found.
 ///
-/// The cost is that of a copy of the base and of the edit. Deleted tables and blob files are looked up in the base
-/// by their order. The tables of the base are passed over to copy them and to count the links of blob files; where
-/// the edit adds tables, to look each up among the numbers that are added; and where it adds to a level from 1 on,
-/// to look each up among the added tables, sorted by level and key. Each added file moves those behind it. Memory
-/// beside the new version is taken for sets of the edit's own files, and for a second list of the blob files with a
-/// number for each.
+/// The cost is that of a copy of the base, and that of [`advance`].
 pub fn apply(alloc: Global, base: &Version, edit: &Edit) -> Result<Version, BadVersion>
     requires { IsEdit edit.now }
     ensures { Applies result (step base.now edit.now) }
 {
-    let tables = base.all_tables();
+    advance(alloc, base.copy(alloc)?, edit)
+}
+
+/// The version after an edit whose numbers and keys are in the bounds of the format, as [`apply`] gives it. The tables
+/// of the base are moved into it; after a refusal the base is gone.
+///
+/// The refusals are those of `apply`, in the same order.
+///
+/// The cost is that of the edit's keys, and of passing over the version: deleted tables and blob files are looked up
+/// in the base by their order. The tables of the base are passed over to move them and to count the links of blob files;
+/// where the edit adds tables, to look each up among the numbers that are added; and where it adds to a level from 1
+/// on, to look each up among the added tables, sorted by level and key. Each added file moves those behind it. Memory
+/// beside the new version is taken for sets of the edit's own files, and for a second list of the blob files with a
+/// number for each.
+pub fn advance(alloc: Global, base: Version, edit: &Edit) -> Result<Version, BadVersion>
+    requires { IsEdit edit.now }
+    ensures { Applies result (step base edit.now) }
+{
+    let (base_tables, base_blobs) = base.into_parts();
+    let tables = base_tables.as_slice();
     let deleted = edit.deleted.as_slice();
     if let Some(number) = first_unknown(tables, deleted) {
         return Err(BadVersion::UnknownTable(number));
     }
-    let left = without(alloc, deleted, tables)?;
+    let left = without(alloc, deleted, base_tables)?;
     let added = edit.added.as_slice();
     if let Some(number) = first_table_twice(alloc, &left, added)? {
         return Err(BadVersion::Twice(number));
     }
     let new_blobs = edit.blobs.as_slice();
-    if let Some(number) = first_blob_twice(alloc, base.blobs(), new_blobs)? {
+    let old_blobs = base_blobs.as_slice();
+    if let Some(number) = first_blob_twice(alloc, old_blobs, new_blobs)? {
         return Err(BadVersion::Twice(number));
     }
     if let Some(number) = first_overlap(alloc, &left, added)? {
         return Err(BadVersion::Overlap(number));
     }
-    let mut blobs = with_blobs(alloc, new_blobs, base.blobs())?;
+    let mut blobs = with_blobs(alloc, new_blobs, old_blobs)?;
     let garbage = edit.garbage.as_slice();
     if let Some(number) = first_unknown_blob(&blobs, garbage) {
         return Err(BadVersion::UnknownBlob(number));
@@ -66,26 +81,25 @@ pub fn apply(alloc: Global, base: &Version, edit: &Edit) -> Result<Version, BadV
     Ok(Version::from_parts(tables, blobs))
 }
 
-// The tables that an edit leaves, with keys of their own.
+// The tables that an edit leaves.
 fn without(
     alloc: Global,
     deleted: &[DeletedTable],
-    tables: &[NewTable],
+    tables: Vec<NewTable>,
 ) -> Result<Vec<NewTable>, BuildErr>
     requires deleted { AllByRecursion (λ d. IsTrue (deletion_fits d)) deleted.now }
-    requires tables { AllByRecursion (λ t. IsTrue (table_fits t)) tables.now }
-    ensures { IfOk result (λ left. left.items ≡ tables_without deleted.now tables.now) }
+    requires tables { AllByRecursion (λ t. IsTrue (table_fits t)) tables.items }
+    ensures { IfOk result (λ left. left.items ≡ tables_without deleted.now tables.items) }
 {
     if deleted.is_empty() {
-        return copies(alloc, tables);
+        return Ok(tables);
     }
     let gone = deleted_ranks(alloc, deleted)?;
     let mut left = Vec::with_capacity(alloc, tables.len())?;
     for table in tables {
-        if gone.contains(&rank_of(table)) {
-            continue;
+        if !gone.contains(&rank_of(&table)) {
+            left.push(table)?;
         }
-        left.push(copied(alloc, table)?)?;
     }
     Ok(left)
 }

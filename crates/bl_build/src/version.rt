@@ -75,6 +75,15 @@ impl Version {
         self.tables.as_slice()
     }
 
+    /// All tables, by level and then by number, and the blob files by number.
+    pub(crate) fn into_parts(self) -> (Vec<NewTable>, Vec<BlobMeta>)
+        ensures tables { result.0.items ≡ self.tables }
+        ensures blobs { result.1.items ≡ self.blobs }
+        ensures version { IsVersion self }
+    {
+        (self.tables, self.blobs)
+    }
+
     pub(crate) fn from_parts(tables: Vec<NewTable>, blobs: Vec<BlobMeta>) -> Version
         requires { IsVersion (record { tables = tables.items; blobs = blobs.items }) }
         ensures { result ≡ record { tables = tables.items; blobs = blobs.items } }

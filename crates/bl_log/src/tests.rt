@@ -75,6 +75,16 @@ fn a_batch_in_its_fragment(rt: HostRuntime) -> Result<(), Fail> {
 }
 
 #[test]
+fn a_kept_buffer_holds_one_record(rt: HostRuntime) -> Result<(), Fail> {
+    let mut writer = LogWriter::start();
+    let mut buffer = vec![in rt.alloc(); 9; 40]?;
+    writer.frame_into(&mut buffer, b"xyz")?;
+    assert_eq!(rt; buffer.len(), 10);
+    assert_eq!(rt; &buffer[4..], b"\x03\0\x01xyz".as_slice());
+    Ok(())
+}
+
+#[test]
 fn a_record_where_seven_bytes_are_left(rt: HostRuntime) -> Result<(), Fail> {
     let mut writer = LogWriter::start();
     let mut log = Vec::new(rt.alloc());

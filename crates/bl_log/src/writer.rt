@@ -128,15 +128,32 @@ impl LogWriter {
             length before % 32768 ≡ self.old → IsLog before payloads → IsLog (before ++ bytes) (payloads ++ payload.now ∷ [])) }
         ensures err { OnErr result (self.new ≡ self.old) }
     {
+        let mut bytes = Vec::new(alloc);
+        self.frame_into(&mut bytes, payload)?;
+        Ok(Octets::from_vec(bytes))
+    }
+
+    /// The same bytes, in a buffer that the caller keeps: it holds them and no others. It grows at most once, to the size that they
+    /// need, and not at all where it has that size.
+    ///
+    /// Errors: `OutOfMemory` alone, after which the writer stands where it stood, and the buffer holds any bytes.
+    pub fn frame_into(&mut self, buffer: &mut Vec<u8>, payload: &[u8]) -> Result<(), LogErr>
+        ensures layout { OnOk result (buffer.new.items ≡ layout self.old payload.now) }
+        ensures moved { OnOk result (self.new ≡ (self.old + length buffer.new.items) % 32768) }
+        ensures adds { OnOk result ((before : List ℕ) (payloads : List (List ℕ)) →
+            length before % 32768 ≡ self.old → IsLog before payloads → IsLog (before ++ buffer.new.items) (payloads ++ payload.now ∷ [])) }
+        ensures err { OnErr result (self.new ≡ self.old) }
+    {
         let room = BLOCK - self.place;
         let filler = if room < HEAD { room } else { 0 };
         let space = BLOCK - HEAD - (self.place + filler) % BLOCK;
         let further = payload.len().saturating_sub(space).div_ceil(BLOCK - HEAD);
-        let mut bytes = Vec::with_capacity(alloc, filler + HEAD * (1 + further) + payload.len())?;
-        put_zeros(&mut bytes, filler)?;
-        put_pieces(&mut bytes, space, payload)?;
-        self.place = (self.place + bytes.len() % BLOCK) % BLOCK;
-        Ok(Octets::from_vec(bytes))
+        buffer.clear();
+        buffer.reserve_exact(filler + HEAD * (1 + further) + payload.len())?;
+        put_zeros(buffer, filler)?;
+        put_pieces(buffer, space, payload)?;
+        self.place = (self.place + buffer.len() % BLOCK) % BLOCK;
+        Ok(())
     }
 }
 

@@ -14,7 +14,7 @@ use Rattle.bl_manifest.specs.declared.error.ManifestErr.{ManifestErr}
 use Rattle.bl_manifest.specs.declared.error.ManifestErr.TheVariants.{Disk as DiskFailed, OutOfMemory}
 use Rattle.bl_manifest.specs.Causes.{IsCause}
 use Rattle.bl_manifest.specs.ManifestFile.{ManifestFile, new_manifest, record_bytes, behind}
-use Rattle.bl_manifest.specs.Writing.{MakesSynced, AppendsSynced, Tears}
+use Rattle.bl_records.specs.Writing.{MakesSynced, AppendsSynced, Tears}
 use Rattle.bl_manifest.specs.Held.{Edits, AreReadBack, manifest_of, HoldsEdits, HoldsOneMore}
 use Rattle.bl_manifest.proofs.EditLemmas.{edits_join, one_edit_more}
 use Rattle.bl_manifest.proofs.WritingLemmas.{file_of}

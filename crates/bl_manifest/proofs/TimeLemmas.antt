@@ -2,7 +2,7 @@
 use Rattle.std.proofs.Common.{◌≡◌, ◌⊎◌, inl, inr, ⊎_elim, ℕ, List, refl, subst, sym, ◌∙◌, arith}
 use Rattle.bl_site.specs.Disk.{Name, Disk, Cut, IsCut, MayLeave}
 use Rattle.bl_site.specs.Calls.{Creates, Appends, AppendsAny, Syncs, Frays, DoneOrNot, MayDuring, InDoubt, FollowsFile, Elapses}
-use Rattle.bl_manifest.specs.Writing.{MakesPartly, AppendsPartly, AppendsInDoubt}
+use Rattle.bl_records.specs.Writing.{MakesPartly, AppendsPartly, AppendsInDoubt}
 use Rattle.bl_manifest.proofs.WritingLemmas.{appended_synced, sync_torn, partly_handed, partly_synced, partly_torn, made_empty, made_then}
 
 module _ {D : Type 0} (clock : D → ℕ) (left_since : D → ℕ → Cut → Type 0) where

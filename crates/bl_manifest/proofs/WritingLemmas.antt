@@ -9,7 +9,7 @@ use Rattle.bl_site.specs.declared.site.SiteErr.TheVariants as site
 use Rattle.bl_manifest.specs.declared.error.ManifestErr.{ManifestErr}
 use Rattle.bl_manifest.specs.declared.error.ManifestErr.TheVariants.{Disk as DiskFailed, Corrupt, OutOfMemory}
 use Rattle.bl_manifest.specs.Causes.{error_of, IsCause, more, AsksUpTo}
-use Rattle.bl_manifest.specs.Writing.{MakesSynced, MakesPartly, AppendsSynced, Tears, AppendsPartly}
+use Rattle.bl_records.specs.Writing.{MakesSynced, MakesPartly, AppendsSynced, Tears, AppendsPartly}
 
 pub file_of : (o : Option File) (a b : File) → o ≡ Some a → o ≡ Some b → a ≡ b
 file_of o a b first second = let e : Some a ≡ Some b = sym first ∙ second in cc e

@@ -2,8 +2,8 @@
 use Rattle.std.specs.Prelude.{◌≡◌, ◌⊎◌, ℕ, ◌+◌, ◌-◌, ◌≤◌, ◌^◌, min}
 use Rattle.bl_site.specs.declared.site.SiteErr.{SiteErr}
 use Rattle.bl_site.specs.declared.site.SiteErr.TheVariants as site
-use Rattle.bl_records.specs.declared.error.ReadErr.{ReadErr}
-use Rattle.bl_records.specs.declared.error.ReadErr.TheVariants as read
+use Rattle.bl_records.specs.declared.error.RecordErr.{RecordErr}
+use Rattle.bl_records.specs.declared.error.RecordErr.TheVariants as read
 use Rattle.bl_manifest.specs.declared.error.ManifestErr.{ManifestErr}
 use Rattle.bl_manifest.specs.declared.error.ManifestErr.TheVariants.{Disk, OutOfMemory}
 
@@ -13,7 +13,7 @@ error_of site.TellFailed = Disk
 error_of site.OutOfMemory = OutOfMemory
 
 -- what a record that could not be read on is here
-abbrev pub read_error_of : ReadErr → ManifestErr
+abbrev pub read_error_of : RecordErr → ManifestErr
 read_error_of read.Disk = Disk
 read_error_of read.OutOfMemory = OutOfMemory
 

@@ -8,7 +8,7 @@ use Rattle.bl_records.specs.Chance.{IsOnlyWritten}
 use Rattle.bl_edit.specs.declared.edit.Edit.{Edit}
 use Rattle.bl_build.specs.Restoring.{Restored}
 use Rattle.bl_manifest.specs.ManifestFile.{ManifestFile, record_bytes}
-use Rattle.bl_manifest.specs.Writing.{AppendsPartly}
+use Rattle.bl_records.specs.Writing.{AppendsPartly}
 use Rattle.bl_manifest.specs.Held.{Edits, AreReadBack, manifest_of, HoldsEdits, ReadsEdits, ReadsFirst}
 use Rattle.bl_manifest.specs.Restores.{Restores, IsFaulty}
 

@@ -3,4 +3,3 @@ pub mod Held
 pub mod Laws
 pub mod ManifestFile
 pub mod Restores
-pub mod Writing

@@ -7,7 +7,7 @@ use bl_code::{CodeErr, Octets};
 use bl_edit::EditErr;
 use bl_log::LogErr;
 use bl_names::NameErr;
-use bl_records::ReadErr;
+use bl_records::RecordErr;
 use bl_site::SiteErr;
 use std::alloc::{AllocError, AllocFailed};
 
@@ -83,15 +83,15 @@ impl<T: Drop> From<AllocFailed<T>> for ManifestErr {
     }
 }
 
-impl From<ReadErr> for ManifestErr {
+impl From<RecordErr> for ManifestErr {
     ghost use Rattle.bl_manifest.specs.Causes.{read_error_of};
 
     ghost from_gives = { λ e w. w ≡ read_error_of e };
 
-    fn from(error: ReadErr) -> ManifestErr {
+    fn from(error: RecordErr) -> ManifestErr {
         match error {
-            ReadErr::Disk => ManifestErr::Disk,
-            ReadErr::OutOfMemory => ManifestErr::OutOfMemory,
+            RecordErr::Disk => ManifestErr::Disk,
+            RecordErr::OutOfMemory => ManifestErr::OutOfMemory,
         }
     }
 }

@@ -8,7 +8,7 @@ ghost use Rattle.bl_names.specs.Names.{IsNumber, manifest_name};
 ghost use Rattle.bl_edit.specs.Bounds.{IsEdit};
 ghost use Rattle.bl_manifest.specs.Causes.{IsCause, AsksUpTo, more};
 ghost use Rattle.bl_manifest.specs.ManifestFile.{new_manifest, record_bytes, behind};
-ghost use Rattle.bl_manifest.specs.Writing.{MakesSynced, MakesPartly, AppendsSynced, AppendsPartly, AppendsInDoubt, Tears};
+ghost use Rattle.bl_records.specs.Writing.{MakesSynced, MakesPartly, AppendsSynced, AppendsPartly, AppendsInDoubt, Tears};
 ghost use Rattle.bl_manifest.specs.Held.{Edits, AreReadBack, HoldsEdits, HoldsOneMore, ReadsEdits};
 
 use crate::error::ManifestErr;

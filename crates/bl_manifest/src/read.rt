@@ -1,9 +1,9 @@
 //! Reading a manifest.
 
 ghost use Rattle.std.specs.Prelude.{◌≡◌, ℕ, ◌<◌, ◌≤◌, List, [], ◌∷◌, length, Err, IfOk, IfErr, IsErrOf, IsTrue, false, None, Some, ◌⊎◌};
-ghost use Rattle.bl_site.specs.Disk.{MayLeave, folder_of};
-ghost use Rattle.bl_site.specs.Calls.{KeepsDisk, Elapses};
+ghost use Rattle.bl_site.specs.Disk.{folder_of};
 ghost use Rattle.bl_site.specs.Causes.{Rose};
+ghost use Rattle.bl_site.specs.Quiet.{OnlyReads};
 ghost use Rattle.bl_names.specs.Names.{IsNumber, manifest_name};
 ghost use Rattle.bl_build.specs.Restoring.{last_given, standing_of as standing_spec};
 ghost use Rattle.bl_manifest.specs.Restores.{HasRestored, IsDamaged, Taken};
@@ -107,13 +107,8 @@ pub fn read_all<S: Site>(alloc: Global, site: &mut S, number: u64) -> Result<Res
     ensures restored { S.shows → IfOk result (λ r. HasRestored (folder_of (S.disk site.old)) number (record { version = r.version; standing = r.standing })) }
     ensures corrupt { S.shows → (file : List ℕ) (place : ℕ) → result ≡ Err (ManifestErr.Corrupt file place) → (file ≡ manifest_name number) × IsDamaged (folder_of (S.disk site.old)) number place }
     ensures named { (file : List ℕ) (place : ℕ) → result ≡ Err (ManifestErr.Corrupt file place) → file ≡ manifest_name number }
-    ensures stays { S.shows → KeepsDisk S.disk S.may_be S.certain site.old site.new }
-    ensures told { S.shows → S.told site.new ≡ S.told site.old }
-    ensures time { S.shows → Elapses (S.clock site.old) (S.clock site.new) (S.left_since site.old) (S.left_since site.new) (MayLeave (S.may_be site.old) (S.told site.old)) }
+    ensures quiet { OnlyReads S.Site site.old site.new }
     ensures disk { IsErrOf result ManifestErr.Disk → Rose (S.disk_faults site.old) (S.disk_faults site.new) }
-    ensures later { S.disk_faults site.old ≤ S.disk_faults site.new }
-    ensures tell_faults { S.tell_faults site.new ≡ S.tell_faults site.old }
-    ensures changes { S.changes site.new ≡ S.changes site.old }
 {
     let name = print_name(alloc, &FileName::Manifest(number))?;
     let mut records = RecordReader::open(alloc, name)?;

@@ -1,3 +1,4 @@
 pub mod AnswerLemmas
 mod FoundLemmas
-pub mod QuietCalls
+pub mod HeldLemmas
+mod LawLemmas

@@ -1,14 +1,14 @@
 //! Reading a file record by record.
 
-ghost use Rattle.std.specs.Prelude.{◌≡◌, ℕ, ◌<◌, ◌≤◌, List, [], length, false, Option, None, Some, Ok, IfOk, IfErr, IfSome, OnErr, IsErrOf, string_bytes};
-ghost use Rattle.bl_site.specs.Disk.{MayLeave, folder_of};
-ghost use Rattle.bl_site.specs.Calls.{KeepsDisk, Elapses};
+ghost use Rattle.std.specs.Prelude.{◌≡◌, ℕ, ◌<◌, List, [], length, false, Option, None, Some, Ok, IfOk, IfErr, IfSome, OnErr, IsErrOf, string_bytes};
+ghost use Rattle.bl_site.specs.Disk.{folder_of};
 ghost use Rattle.bl_site.specs.Causes.{Rose};
+ghost use Rattle.bl_site.specs.Quiet.{OnlyReads};
 ghost use Rattle.bl_log.specs.declared.cause.EndCause.{EndCause};
 ghost use Rattle.bl_records.specs.FileReading.{reading_at, HasFound};
 ghost use Rattle.bl_records.specs.Answers.{Answers};
 
-use crate::error::ReadErr;
+use crate::error::RecordErr;
 use bl_code::Octets;
 use bl_log::{EndCause, LogNext, LogReader, found_records_are_first};
 use bl_site::Site;
@@ -58,18 +58,13 @@ fn feed_piece<S: Site>(
     buffer: &mut [u8],
     reader: &mut LogReader,
     offset: &mut u64,
-) -> Result<bool, ReadErr>
+) -> Result<bool, RecordErr>
     requires some { 0 < length buffer.old }
     requires open { reader.old.closed ≡ false }
     ensures keeps { S.shows → (found : List (List ℕ × ℕ)) → HasFound (folder_of (S.disk site.old) name.now) found (reading_at name.now offset.old reader.old) → HasFound (folder_of (S.disk site.old) name.now) found (reading_at name.now offset.new reader.new) }
     ensures absent { S.shows → IfOk result (λ there. there ≡ false → folder_of (S.disk site.old) name.now ≡ None) }
-    ensures stays { S.shows → KeepsDisk S.disk S.may_be S.certain site.old site.new }
-    ensures told { S.shows → S.told site.new ≡ S.told site.old }
-    ensures time { S.shows → Elapses (S.clock site.old) (S.clock site.new) (S.left_since site.old) (S.left_since site.new) (MayLeave (S.may_be site.old) (S.told site.old)) }
-    ensures disk { IsErrOf result ReadErr.Disk → Rose (S.disk_faults site.old) (S.disk_faults site.new) }
-    ensures later { S.disk_faults site.old ≤ S.disk_faults site.new }
-    ensures tell_faults { S.tell_faults site.new ≡ S.tell_faults site.old }
-    ensures changes { S.changes site.new ≡ S.changes site.old }
+    ensures quiet { OnlyReads S.Site site.old site.new }
+    ensures disk { IsErrOf result RecordErr.Disk → Rose (S.disk_faults site.old) (S.disk_faults site.new) }
 {
     let Some(count) = site.read_at(name, *offset, buffer)? else {
         return Ok(false);
@@ -79,7 +74,7 @@ fn feed_piece<S: Site>(
         return Ok(true);
     }
     let Some(next) = offset.checked_add(count as u64) else {
-        return Err(ReadErr::OutOfMemory);
+        return Err(RecordErr::OutOfMemory);
     };
     reader.feed(&buffer[..count])?;
     *offset = next;
@@ -93,7 +88,7 @@ fn read_next<S: Site>(
     buffer: &mut [u8],
     reader: &mut LogReader,
     offset: &mut u64,
-) -> Result<NextRecord, ReadErr>
+) -> Result<NextRecord, RecordErr>
     requires { 0 < length buffer.old }
     ensures answers { S.shows → IfOk result (λ next. (found : List (List ℕ × ℕ)) → HasFound (folder_of (S.disk site.old) name.now) found (reading_at name.now offset.old reader.old)
         → Answers next (folder_of (S.disk site.old) name.now) found (reading_at name.now offset.new reader.new)) }
@@ -102,13 +97,8 @@ fn read_next<S: Site>(
         → HasFound (folder_of (S.disk site.old) name.now) found (reading_at name.now offset.new reader.new)) }
     ensures ends { (place : ℕ) (cause : EndCause) → result ≡ Ok (NextRecord.End place cause) → reader.new.ended ≡ Some (place, cause) }
     ensures again { IfSome reader.old.ended (λ end. (result ≡ Ok (NextRecord.End end.0 end.1)) × (reader.new ≡ reader.old) × (offset.new ≡ offset.old) × (site.new ≡ site.old)) }
-    ensures stays { S.shows → KeepsDisk S.disk S.may_be S.certain site.old site.new }
-    ensures told { S.shows → S.told site.new ≡ S.told site.old }
-    ensures time { S.shows → Elapses (S.clock site.old) (S.clock site.new) (S.left_since site.old) (S.left_since site.new) (MayLeave (S.may_be site.old) (S.told site.old)) }
-    ensures disk { IsErrOf result ReadErr.Disk → Rose (S.disk_faults site.old) (S.disk_faults site.new) }
-    ensures later { S.disk_faults site.old ≤ S.disk_faults site.new }
-    ensures tell_faults { S.tell_faults site.new ≡ S.tell_faults site.old }
-    ensures changes { S.changes site.new ≡ S.changes site.old }
+    ensures quiet { OnlyReads S.Site site.old site.new }
+    ensures disk { IsErrOf result RecordErr.Disk → Rose (S.disk_faults site.old) (S.disk_faults site.new) }
 {
     found_records_are_first();
     'pieces: for _piece in 0..u64::MAX {
@@ -123,17 +113,17 @@ fn read_next<S: Site>(
             }
         }
     }
-    Err(ReadErr::OutOfMemory)
+    Err(RecordErr::OutOfMemory)
 }
 
 impl RecordReader {
     /// A reader at the beginning of the file of this name, which need not be there yet. It asks nothing of the folder.
     ///
     /// Errors: `OutOfMemory`.
-    pub fn open(alloc: Global, name: String) -> Result<RecordReader, ReadErr>
+    pub fn open(alloc: Global, name: String) -> Result<RecordReader, RecordErr>
         ensures name { IfOk result (λ reader. reader.name ≡ string_bytes name) }
         ensures begins { IfOk result (λ reader. (file : Option (List ℕ)) → HasFound file [] reader) }
-        ensures memory { IfErr result (λ e. e ≡ ReadErr.OutOfMemory) }
+        ensures memory { IfErr result (λ e. e ≡ RecordErr.OutOfMemory) }
     {
         Ok(RecordReader {
             name,
@@ -149,7 +139,7 @@ impl RecordReader {
     ///
     /// Errors: `Disk`; `OutOfMemory`, which also comes where the file has more than 2^64 - 1 bytes before the next record's end. The
     /// reader has found what it had found before, and may be asked again.
-    pub fn next<S: Site>(&mut self, site: &mut S) -> Result<NextRecord, ReadErr>
+    pub fn next<S: Site>(&mut self, site: &mut S) -> Result<NextRecord, RecordErr>
         ensures answers { S.shows → IfOk result (λ next. (found : List (List ℕ × ℕ)) → HasFound (folder_of (S.disk site.old) self.old.name) found self.old
             → Answers next (folder_of (S.disk site.old) self.old.name) found self.new) }
         ensures absent { S.shows → IfOk result (λ next. next ≡ NextRecord.Absent → folder_of (S.disk site.old) self.old.name ≡ None) }
@@ -161,13 +151,8 @@ impl RecordReader {
         ensures ends { (place : ℕ) (cause : EndCause) → result ≡ Ok (NextRecord.End place cause) → self.new.reading.ended ≡ Some (place, cause) }
         ensures again { IfSome self.old.reading.ended (λ end. (result ≡ Ok (NextRecord.End end.0 end.1)) × (self.new ≡ self.old) × (site.new ≡ site.old)) }
 
-        ensures stays { S.shows → KeepsDisk S.disk S.may_be S.certain site.old site.new }
-        ensures told { S.shows → S.told site.new ≡ S.told site.old }
-        ensures time { S.shows → Elapses (S.clock site.old) (S.clock site.new) (S.left_since site.old) (S.left_since site.new) (MayLeave (S.may_be site.old) (S.told site.old)) }
-        ensures disk { IsErrOf result ReadErr.Disk → Rose (S.disk_faults site.old) (S.disk_faults site.new) }
-        ensures later { S.disk_faults site.old ≤ S.disk_faults site.new }
-        ensures tell_faults { S.tell_faults site.new ≡ S.tell_faults site.old }
-        ensures changes { S.changes site.new ≡ S.changes site.old }
+        ensures quiet { OnlyReads S.Site site.old site.new }
+        ensures disk { IsErrOf result RecordErr.Disk → Rose (S.disk_faults site.old) (S.disk_faults site.new) }
     {
         read_next(
             site,

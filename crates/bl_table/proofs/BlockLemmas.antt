@@ -1,10 +1,10 @@
 -- A block and its trailer, test by test.
-use Rattle.std.proofs.Common.{◌≡◌, ℕ, ◌+◌, ◌-◌, ◌*◌, ◌^◌, ◌<◌, ◌≤◌, ◌==◌, ◌&&◌, nat_lt, nat_le, not, Bool, true, false, List, [], ◌∷◌, ◌++◌, length, map, take, drop, Option, None, Some, refl, sym, ◌∙◌, ap, subst, arith, ◌⊎◌, inl, inr, Result, Ok, Err}
+use Rattle.std.proofs.Common.{◌≡◌, ℕ, ◌+◌, ◌-◌, ◌*◌, ◌^◌, ◌<◌, ◌≤◌, ◌==◌, ◌&&◌, nat_lt, nat_le, not, cond, Bool, true, false, List, [], ◌∷◌, ◌++◌, length, map, take, drop, Option, None, Some, refl, sym, ◌∙◌, ap, subst, arith, ◌⊎◌, inl, inr, Result, Ok, Err}
 use Rattle.std.proofs.lemmas.Bool.{cases_lt, cases_eq, le-ltb, lt-ltb, le-leb, lt-leb, eq-eqb, ne_eqb, cond-true, cond-false}
 use Rattle.bl_code.specs.Crc.{crc_byte, crc_after}
 use Rattle.bl_table.specs.declared.handle.Handle.{Handle}
 use Rattle.bl_table.specs.declared.fault.TableRule.TheVariants.{Length, Restart}
-use Rattle.bl_table.specs.Faults.{Fault, Answers, ◌or◌, unless}
+use Rattle.bl_table.specs.Faults.{Fault, Answers, ◌and◌, comes_first, unless}
 use Rattle.std.specs.Result.{IsErrAnd}
 use Rattle.bl_table.specs.declared.fault.BadTable.{BadTable}
 use Rattle.bl_table.specs.declared.fault.BadTable.TheVariants.{OutOfMemory}
@@ -55,22 +55,17 @@ unfolding block_at
 block_unfit bytes h bad = cond-true _ _ _ (ap not (not_whole (length bytes) (h.size + 5) (h.offset + h.size + 5) (2 ^ 64) bad))
 
 pub block_whole : (bytes : List ℕ) (h : Handle) (block : Contents) → length bytes ≡ h.size + 5 → h.offset + h.size + 5 < 2 ^ 64 → block_in h.offset (take h.size bytes) ≡ block
-    → block_at h bytes ≡ record block { fault = block.fault or trailer_fault (h.offset + h.size) (take h.size bytes) (drop h.size bytes) }
+    → block_at h bytes ≡ record block { fault = block.fault and trailer_fault (h.offset + h.size) (take h.size bytes) (drop h.size bytes) }
 unfolding block_at
 block_whole bytes h block whole fits e =
     cond-false _ _ _ (ap not (is_whole (length bytes) (h.size + 5) (h.offset + h.size + 5) (2 ^ 64) whole fits))
-    ∙ ap (λ (b : Contents). record b { fault = b.fault or trailer_fault (h.offset + h.size) (take h.size bytes) (drop h.size bytes) }) e
+    ∙ ap (λ (b : Contents). record b { fault = b.fault and trailer_fault (h.offset + h.size) (take h.size bytes) (drop h.size bytes) }) e
 
--- the fault of the block, or of its trailer
-pub block_faulty : (bytes : List ℕ) (h : Handle) (fault : Fault) → length bytes ≡ h.size + 5 → h.offset + h.size + 5 < 2 ^ 64 → Some fault ≡ (block_in h.offset (take h.size bytes)).fault → Some fault ≡ (block_at h bytes).fault
-block_faulty bytes h fault whole fits e =
-    ap (λ f. f or trailer_fault (h.offset + h.size) (take h.size bytes) (drop h.size bytes)) e
-    ∙ ap (λ (b : Contents). b.fault) (sym (block_whole bytes h (block_in h.offset (take h.size bytes)) whole fits refl))
-
-pub trailer_faulty : (bytes : List ℕ) (h : Handle) (fault : Option Fault) → length bytes ≡ h.size + 5 → h.offset + h.size + 5 < 2 ^ 64 → None ≡ (block_in h.offset (take h.size bytes)).fault
-    → fault ≡ trailer_fault (h.offset + h.size) (take h.size bytes) (drop h.size bytes) → fault ≡ (block_at h bytes).fault
-trailer_faulty bytes h fault whole fits e t =
-    t ∙ ap (λ f. f or trailer_fault (h.offset + h.size) (take h.size bytes) (drop h.size bytes)) e
+-- the first fault of the block and of its trailer
+pub first_faulty : (bytes : List ℕ) (h : Handle) (fault of_block of_trailer : Option Fault) → length bytes ≡ h.size + 5 → h.offset + h.size + 5 < 2 ^ 64 → of_block ≡ (block_in h.offset (take h.size bytes)).fault
+    → of_trailer ≡ trailer_fault (h.offset + h.size) (take h.size bytes) (drop h.size bytes) → fault ≡ (of_block and of_trailer) → fault ≡ (block_at h bytes).fault
+first_faulty bytes h fault of_block of_trailer whole fits eb et e =
+    e ∙ ap (λ f. f and of_trailer) eb ∙ ap (λ f. (block_in h.offset (take h.size bytes)).fault and f) et
     ∙ ap (λ (b : Contents). b.fault) (sym (block_whole bytes h (block_in h.offset (take h.size bytes)) whole fits refl))
 
 pub read_fault : (bytes : List ℕ) (h : Handle) (fault : Fault) → Some fault ≡ (block_at h bytes).fault → read_block bytes h ≡ Err fault
@@ -83,9 +78,10 @@ pub record IsGood (bytes : List ℕ) (h : Handle) : Type 0 where
   pub good : None ≡ (block_in h.offset (take h.size bytes)).fault
   pub read : read_block bytes h ≡ Ok (map (entry_of h.offset) (block_in h.offset (take h.size bytes)).cells)
 
-left_none : (a b : Option Fault) → None ≡ (a or b) → None ≡ a
+pub left_none : (a b : Option Fault) → None ≡ (a and b) → None ≡ a
 left_none None b e = refl
-left_none (Some f) b e = absurd cc
+left_none (Some f) None e = absurd cc
+left_none (Some f) (Some g) e = absurd (elim (comes_first g f) as (λ b. None ≡ cond b (Some g) (Some f) → ⊥) [ true ↦ λ no. cc | false ↦ λ no. cc ] e)
 
 pub is_good : (bytes : List ℕ) (h : Handle) → None ≡ (block_at h bytes).fault → IsGood bytes h
 is_good bytes h e =

@@ -10,7 +10,7 @@ use Rattle.bl_table.specs.declared.entry.BlockEntry.{BlockEntry}
 use Rattle.bl_table.specs.declared.handle.Handle.{Handle}
 use Rattle.bl_table.specs.declared.fault.TableRule.{TableRule}
 use Rattle.bl_table.specs.declared.fault.TableRule.TheVariants as rule
-use Rattle.bl_table.specs.Faults.{Fault, expect, unless, ◌or◌, ◌and◌, comes_first}
+use Rattle.bl_table.specs.Faults.{Fault, expect, unless, ◌and◌, comes_first}
 use Rattle.bl_table.specs.Blocks.{Cell, Cells, Contents, cell_at, cells_at, cells_in, block_in, block_at, trailer_fault, number_at, entry_of, entry_fault, stop_fault, stands_behind, head_entry, read_block}
 use Rattle.bl_table.specs.Table.{handle_at, ends_before, inside, with_magic, with_index, read_footer}
 use Rattle.bl_table.specs.Whole.{Data, Footer, named, second_fault, footer_in, block_of, no_entry, meta_fault, index_fault, data_handle, block_entries, block_fault, data_at, data_of, have_order, ascend, descend, last_entry, order_fault, last_fault, first_fault, next_fault, data_fault, table_fault, read_table}
@@ -110,7 +110,7 @@ good_block bytes h e =
     let count : ℕ = number_at block (length block - 4) in
     let limit : ℕ = length block - 4 - 4 * count in
     let l = good_limit h.offset (length block - 4) count block g.good refl refl in
-    let is : block_at h slice ≡ record (block_in h.offset block) { fault = (block_in h.offset block).fault or trailer_fault (h.offset + h.size) block (drop h.size slice) } = block_whole slice h (block_in h.offset block) g.whole g.fits refl in
+    let is : block_at h slice ≡ record (block_in h.offset block) { fault = (block_in h.offset block).fault and trailer_fault (h.offset + h.size) block (drop h.size slice) } = block_whole slice h (block_in h.offset block) g.whole g.fits refl in
     let cells : (block_at h slice).cells ≡ (cells_in (take limit block)).cells = ap (λ (b : Contents). b.cells) is ∙ ap (λ (b : Contents). b.cells) l.0 in
     let P : List Cell → Type 0 = λ l. entry_fault h.offset None l ≡ None in
     record {

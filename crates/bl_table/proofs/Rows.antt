@@ -53,6 +53,11 @@ unfolding one fixed32 varint mask_of crc_after crc_bits entry entries_from resta
     take_bytes varint_in cell_at cells_at block_in block_at numbers_in entry_fault restarts_left
 other_type = refl
 
+-- a block of no bytes: its missing count and its type are at fault at one place
+empty_block : read_block (1 ∷ 0 ∷ 0 ∷ 0 ∷ 0 ∷ []) (record { offset = 0; size = 0 }) ≡ Err (rule.Kind, 0)
+unfolding block_at block_in
+empty_block = refl
+
 zeros : read_footer (replicate 48 0) 118 ≡ Err (rule.Magic, 110)
 unfolding varint_in
 zeros = refl

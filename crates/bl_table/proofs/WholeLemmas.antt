@@ -8,7 +8,7 @@ use Rattle.std.specs.Prelude.{slice_get, not}
 use Rattle.bl_table.specs.declared.fault.TableRule.TheVariants.{Entry, Order}
 use Rattle.bl_table.specs.declared.handle.Handle.{Handle}
 use Rattle.bl_table.specs.declared.whole.Named.{Named}
-use Rattle.bl_table.specs.Faults.{Fault, ◌and◌, ◌or◌, rank, comes_first, expect}
+use Rattle.bl_table.specs.Faults.{Fault, ◌and◌, rank, comes_first, expect}
 use Rattle.bl_table.specs.Blocks.{Contents, block_in, block_at, trailer_fault, Cell, Cells, cell_at, cells_at, cells_in, entry_of, head_entry}
 use Rattle.bl_table.specs.Whole.{block_of, no_entry, meta_fault, last_entry, ascend, descend, first_fault, order_fault, last_fault}
 use Rattle.bl_table.specs.Wholes.{IsFound, orders}
@@ -127,7 +127,7 @@ pub found : (table slice : List ℕ) (h : Handle) (n : Named) → h.offset + h.s
     → n.bare ≡ (block_in h.offset (take h.size slice)).bare → (cells_in n.entries.now).cells ≡ (block_in h.offset (take h.size slice)).cells → IsFound n (block_of table h)
 found table slice h n within small es ef eb ec =
     let size : length (take (h.size + 5) (drop h.offset table)) ≡ h.size + 5 = length-take-le (h.size + 5) (drop h.offset table) (omega (arith, length-drop h.offset table)) in
-    let is : block_at h (take (h.size + 5) (drop h.offset table)) ≡ record (block_in h.offset (take h.size (take (h.size + 5) (drop h.offset table)))) { fault = (block_in h.offset (take h.size (take (h.size + 5) (drop h.offset table)))).fault or trailer_fault (h.offset + h.size) (take h.size (take (h.size + 5) (drop h.offset table))) (drop h.size (take (h.size + 5) (drop h.offset table))) } =
+    let is : block_at h (take (h.size + 5) (drop h.offset table)) ≡ record (block_in h.offset (take h.size (take (h.size + 5) (drop h.offset table)))) { fault = (block_in h.offset (take h.size (take (h.size + 5) (drop h.offset table)))).fault and trailer_fault (h.offset + h.size) (take h.size (take (h.size + 5) (drop h.offset table))) (drop h.size (take (h.size + 5) (drop h.offset table))) } =
     block_whole (take (h.size + 5) (drop h.offset table)) h (block_in h.offset (take h.size (take (h.size + 5) (drop h.offset table)))) size (omega arith) refl in
     record {
       fault = ef ∙ ap (λ s. (block_at h s).fault) es;

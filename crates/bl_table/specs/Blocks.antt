@@ -8,7 +8,7 @@ use Rattle.bl_code.specs.Reading.{Input, Read, from_start, take_bytes, take_vari
 use Rattle.bl_table.specs.declared.entry.BlockEntry.{BlockEntry}
 use Rattle.bl_table.specs.declared.handle.Handle.{Handle}
 use Rattle.bl_table.specs.declared.fault.TableRule.TheVariants.{Length, Kind, Crc, Restart, Entry, Order}
-use Rattle.bl_table.specs.Faults.{Fault, expect, ◌or◌, unless}
+use Rattle.bl_table.specs.Faults.{Fault, expect, ◌or◌, ◌and◌, unless}
 
 -- an entry: where it begins, how many bytes its key shares with the key before, and what it holds
 pub record Cell : Type 0 where
@@ -133,12 +133,12 @@ trailer_fault place bytes trailer =
     expect (slice_index trailer 0 == 0) Kind place
     or expect (number_at trailer 1 == mask_of (crc32c (bytes ++ slice_index trailer 0 ∷ []))) Crc (place + 1)
 
--- a block of this handle, with its trailer
+-- A block of this handle, with its trailer. In a block of no bytes both may be at fault at one place, where the order of the rules decides.
 unfoldable pub block_at : Handle → List ℕ → Contents
 block_at h bytes =
     let block = block_in h.offset (take h.size bytes) in
     if not ((length bytes == h.size + 5) && nat_lt (h.offset + h.size + 5) (2 ^ 64)) then faulty (Length, h.offset)
-    else record block { fault = block.fault or trailer_fault (h.offset + h.size) (take h.size bytes) (drop h.size bytes) }
+    else record block { fault = block.fault and trailer_fault (h.offset + h.size) (take h.size bytes) (drop h.size bytes) }
 
 abbrev pub entry_of : ℕ → Cell → BlockEntry
 entry_of offset c = record { place = offset + c.place; key = c.key; value = c.value }

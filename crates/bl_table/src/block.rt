@@ -6,7 +6,7 @@ ghost use Rattle.bl_table.specs.Faults.{Answers};
 ghost use Rattle.bl_table.specs.Steps.{fault_of};
 ghost use Rattle.bl_table.specs.Blocks.{block_at, trailer_fault as fault_of_trailer, read_block, first_from, next_after};
 
-use crate::check::{Fault, block_fault, is_before, number_at};
+use crate::check::{Fault, block_fault, first_of, is_before, number_at};
 use crate::entry::{BlockEntry, next_entry};
 use crate::fault::{BadTable, TableErr, TableRule};
 use crate::handle::Handle;
@@ -17,7 +17,7 @@ use std::marker::Model;
 use std::mem;
 
 /// The bytes of a trailer: a type, and a checksum of four bytes.
-const TRAILER: u64 = 5;
+pub(crate) const TRAILER: u64 = 5;
 
 /// A block that was read and found good. Contracts see its entries.
 #[derive(Drop)]
@@ -88,18 +88,18 @@ pub(crate) fn whole_fault(
         }));
     }
     let (block, trailer) = bytes.split_at(handle.size as usize);
-    if let Some(fault) = block_fault(alloc, block, handle.offset)? {
-        return Ok(Some(fault));
-    }
-    Ok(trailer_fault(block, trailer, handle.offset + handle.size))
+    let of_block = block_fault(alloc, block, handle.offset)?;
+    let of_trailer = trailer_fault(block, trailer, handle.offset + handle.size);
+    Ok(first_of(of_block, of_trailer))
 }
 
 impl Block {
     /// Reads a block with its trailer, of 5 bytes; places count from the beginning of the table. `Length` at
-    /// the handle's offset where the bytes are not the handle's size and 5, or would reach 2^64. Else the first
-    /// of these: `Restart` at the count of the restarts, or at the block's beginning where it has no room for a
-    /// count; `Entry` or `Order` at the first entry that is at fault; `Restart` at the first restart that is;
-    /// `Kind` at the type; `Crc` at the checksum. `OutOfMemory` where memory runs out.
+    /// the handle's offset where the bytes are not the handle's size and 5, or would reach 2^64. Else the first by
+    /// its place of these, and at one place by the order of the rules: `Restart` at the count of the restarts, or at
+    /// the block's beginning where it has no room for a count; `Entry` or `Order` at the first entry that is at
+    /// fault; `Restart` at the first restart that is; `Kind` at the type; `Crc` at the checksum. `OutOfMemory` where
+    /// memory runs out.
     pub fn parse(alloc: Global, bytes: &[u8], handle: Handle) -> Result<Block, BadTable>
         ensures { Answers result (read_block bytes.now handle) }
     {

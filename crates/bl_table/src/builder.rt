@@ -5,6 +5,7 @@ ghost use Rattle.bl_table.specs.Spelling.{Item, handle, footer, with_trailer, cl
 ghost use Rattle.bl_table.specs.Building.{HasAdded, item, written, block_of};
 ghost use Rattle.bl_table.specs.Marks.{Marks};
 
+use crate::block::TRAILER;
 use crate::fault::TableErr;
 use crate::mark::Mark;
 use crate::spell::{put_restarts, put_trailer};
@@ -67,7 +68,7 @@ fn close_block(
     ensures index { IfOk result (λ r. (index.new ≡ written index.old (item key.now (handle offset (length (block_of block.now))))) × Marks r.1 index.old) }
     ensures err { OnErr result (index.new ≡ index.old) }
 {
-    let mut bytes = Vec::new(alloc);
+    let mut bytes = Vec::with_capacity(alloc, block.size().saturating_add(TRAILER as usize))?;
     block.put_block(&mut bytes)?;
     let size = bytes.len() as u64;
     put_trailer(&mut bytes, 0)?;

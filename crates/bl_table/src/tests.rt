@@ -171,3 +171,24 @@ fn a_changed_block_is_refused(rt: HostRuntime) -> Result<(), Fail> {
     );
     Ok(())
 }
+
+#[test]
+fn a_block_of_no_bytes_is_refused_by_its_type(rt: HostRuntime) -> Result<(), Fail> {
+    // Its missing count and its type are at fault at one place: the rule that is listed first is answered.
+    let handle = Handle { offset: 0, size: 0 };
+    let block = Block::parse(rt.alloc(), &[1, 0, 0, 0, 0], handle);
+    assert_eq!(rt; block.err(), refused(TableRule::Kind, 0));
+    Ok(())
+}
+
+#[test]
+fn a_metaindex_block_of_no_bytes_is_refused_by_its_type(rt: HostRuntime) -> Result<(), Fail> {
+    let mut table = with_byte(rt.alloc(), EMPTY, 0, 1)?;
+    // The handle of the metaindex block.
+    if let Some(size) = table.get_mut(27) {
+        *size = 0;
+    }
+    let read = read_table(rt.alloc(), &table);
+    assert_eq!(rt; read.err(), refused(TableRule::Kind, 0));
+    Ok(())
+}

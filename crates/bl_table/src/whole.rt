@@ -1,12 +1,12 @@
 //! Reading a whole table, one block at a time.
 
-ghost use Rattle.std.specs.Prelude.{◌≡◌, ℕ, ◌+◌, ◌-◌, ◌^◌, ◌<◌, ◌≤◌, ◌++◌, List, length, map, flat_map, take, drop, not, IfOk, OnOk};
+ghost use Rattle.std.specs.Prelude.{◌≡◌, ℕ, ◌+◌, ◌-◌, ◌^◌, ◌<◌, ◌≤◌, ◌++◌, List, length, map, flat_map, take, drop, not, None, IfOk, OnOk};
 ghost use Rattle.std.specs.Option.{ForSome};
 ghost use Rattle.bl_table.specs.declared.fault.TableRule.TheVariants.{Order};
 ghost use Rattle.bl_table.specs.Faults.{expect, ◌and◌};
 ghost use Rattle.bl_table.specs.Steps.{fault_of};
 ghost use Rattle.bl_table.specs.Blocks.{block_in, cells_in, entry_of};
-ghost use Rattle.bl_table.specs.Whole.{Data, block_of, meta_fault as fault_in_meta, block_fault as fault_of_block, block_entries, data_handle as handle_in, data_at, data_fault, ascend as is_ascending, descend as is_descending, first_fault, index_fault, data_of, read_table as reading};
+ghost use Rattle.bl_table.specs.Whole.{Data, block_of, meta_fault as fault_in_meta, block_fault as fault_of_block, block_entries, data_handle as handle_in, data_at, data_fault, ascend as is_ascending, descend as is_descending, first_fault, last_entry, index_fault, data_of, read_table as reading};
 ghost use Rattle.bl_table.specs.Wholes.{IsFound, orders, Reads};
 
 use crate::block::whole_fault;
@@ -198,7 +198,23 @@ fn order_fault(
     first_of(of_index, first_of(of_first, of_own))
 }
 
-// The entries of the data blocks that an index at an offset names, and their first fault.
+// Of entries that a fault refuses the last one is kept, since the next one is to stand behind it: so a table that
+// names one block many times takes no more memory than that block.
+fn keep_needed(fault: Option<Fault>, entries: &mut Vec<BlockEntry>) -> Result<(), TableErr>
+    ensures whole { fault_of fault ≡ None → entries.new.items ≡ entries.old.items }
+    ensures last { OnOk result (last_entry None entries.new.items ≡ last_entry None entries.old.items) }
+{
+    if fault.is_none() {
+        return Ok(());
+    }
+    if let Some(last) = entries.pop() {
+        entries.clear();
+        entries.push(last)?;
+    }
+    Ok(())
+}
+
+// The first fault of the data blocks that an index at an offset names, and their entries where there is none.
 fn read_blocks(
     alloc: Global,
     table: &[u8],
@@ -208,7 +224,7 @@ fn read_blocks(
     requires size { 48 ≤ length table.now }
     requires within { offset + length index.now ≤ length table.now }
     ensures fault { IfOk result (λ r. fault_of r.0 ≡ data_fault None (map (data_at table.now offset) (cells_in index.now).cells)) }
-    ensures entries { IfOk result (λ r. r.1.items ≡ flat_map (λ (d : Data). d.entries) (map (data_at table.now offset) (cells_in index.now).cells)) }
+    ensures entries { IfOk result (λ r. fault_of r.0 ≡ None → r.1.items ≡ flat_map (λ (d : Data). d.entries) (map (data_at table.now offset) (cells_in index.now).cells)) }
 {
     let mut taker = Taker::over(index);
     let mut before = Vec::new(alloc);
@@ -229,6 +245,7 @@ fn read_blocks(
         };
         let order = order_fault(&entries, from, first, IndexKey { place, key: &key });
         fault = first_of(fault, first_of(order, found));
+        keep_needed(fault, &mut entries)?;
         at = place;
         mem::swap(&mut before, &mut key);
     }
@@ -256,7 +273,7 @@ fn meta_fault(alloc: Global, table: &[u8], meta: Option<Handle>) -> Result<Optio
     Ok(first_of(block.fault, Some(entry)))
 }
 
-// The first fault of an index block and of the blocks that it names, and their entries.
+// The first fault of an index block and of the blocks that it names, and their entries where there is none.
 fn read_index(
     alloc: Global,
     table: &[u8],
@@ -265,7 +282,7 @@ fn read_index(
     requires size { 48 ≤ length table.now }
     requires within { ForSome index (λ h. h.offset + h.size + 5 ≤ length table.now) }
     ensures fault { IfOk result (λ r. fault_of r.0 ≡ (index_fault table.now index and data_fault None (data_of table.now index))) }
-    ensures entries { IfOk result (λ r. r.1.items ≡ flat_map (λ (d : Data). d.entries) (data_of table.now index)) }
+    ensures entries { IfOk result (λ r. fault_of r.0 ≡ None → r.1.items ≡ flat_map (λ (d : Data). d.entries) (data_of table.now index)) }
 {
     let Some(handle) = index else {
         return Ok((None, Vec::new(alloc)));

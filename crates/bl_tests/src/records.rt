@@ -1,17 +1,17 @@
 //! The records of a file, read one after another.
 
 use bl_log::{EndCause, LogWriter};
-use bl_records::{NextRecord, ReadErr, RecordReader};
+use bl_records::{NextRecord, RecordErr, RecordReader};
 use bl_site_mem::MemSite;
 use std::alloc::Global;
 use std::test::Fail;
 
 const NAME: &str = "000002.log";
 
-fn failed(error: ReadErr) -> Fail {
+fn failed(error: RecordErr) -> Fail {
     match error {
-        ReadErr::Disk => Fail::from("disk"),
-        ReadErr::OutOfMemory => Fail::from("memory"),
+        RecordErr::Disk => Fail::from("disk"),
+        RecordErr::OutOfMemory => Fail::from("memory"),
     }
 }
 
@@ -33,7 +33,7 @@ fn opened(alloc: Global) -> Result<RecordReader, Fail> {
 }
 
 // The size of the record that was answered.
-fn size_of(answer: Result<NextRecord, ReadErr>) -> Option<usize> {
+fn size_of(answer: Result<NextRecord, RecordErr>) -> Option<usize> {
     match answer {
         Ok(NextRecord::Record(payload)) => Some(payload.as_slice().len()),
         _ => None,
@@ -41,19 +41,19 @@ fn size_of(answer: Result<NextRecord, ReadErr>) -> Option<usize> {
 }
 
 // Where reading ends, and why.
-fn end_of(answer: Result<NextRecord, ReadErr>) -> Option<(u64, EndCause)> {
+fn end_of(answer: Result<NextRecord, RecordErr>) -> Option<(u64, EndCause)> {
     match answer {
         Ok(NextRecord::End(place, cause)) => Some((place, cause)),
         _ => None,
     }
 }
 
-fn is_absent(answer: Result<NextRecord, ReadErr>) -> bool {
+fn is_absent(answer: Result<NextRecord, RecordErr>) -> bool {
     matches!(&answer, Ok(NextRecord::Absent))
 }
 
-fn is_disk(answer: Result<NextRecord, ReadErr>) -> bool {
-    matches!(&answer, Err(ReadErr::Disk))
+fn is_disk(answer: Result<NextRecord, RecordErr>) -> bool {
+    matches!(&answer, Err(RecordErr::Disk))
 }
 
 #[test]

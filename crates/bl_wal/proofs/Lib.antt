@@ -1,5 +1,4 @@
 mod EntryLemmas
-mod HeldLemmas
 mod LawLemmas
 mod ProgressLemmas
 mod RecordLemmas

@@ -1,11 +1,12 @@
 -- The batches that a log holds on the disk, and what a power cut leaves of them.
-use Rattle.std.specs.Prelude.{◌≡◌, ℕ, ◌%◌, ◌≤◌, false, List, [], ◌∷◌, ◌++◌, length, map, take, Some, Result, Ok, Err}
-use Rattle.bl_site.specs.Disk.{Disk, File, Folder}
+use Rattle.std.specs.Prelude.{◌≡◌, ℕ, ◌≤◌, List, [], ◌∷◌, ◌++◌, length, map, take, Some, Result, Ok, Err}
+use Rattle.bl_site.specs.Disk.{Disk, Folder}
 use Rattle.bl_entry.specs.Batches.{Batch, batch_bytes}
 use Rattle.bl_entry.specs.Reading.{read_batch}
 use Rattle.bl_log.specs.Log.{records}
 use Rattle.bl_log.specs.Layout.{written}
-use Rattle.bl_wal.specs.LogFile.{LogFile, log_name}
+use Rattle.bl_records.specs.Held.{HoldsRecords}
+use Rattle.bl_wal.specs.LogFile.{LogFile, log_name, file_of}
 use Rattle.bl_wal.specs.declared.error.WalErr.{WalErr}
 use Rattle.bl_wal.specs.declared.error.WalErr.TheVariants.{Disk as DiskFailed, Corrupt, OutOfMemory}
 
@@ -26,14 +27,8 @@ abbrev pub log_of : Batches → List ℕ
 log_of batches = written 0 (map record_of batches)
 
 -- What is written of the log are these batches, of which the first so many are synced. While no call of it has failed, it reads as it is written, and the next record goes to its end.
-pub record HoldsBatches (disk : Disk) (log : LogFile) (batches : Batches) (synced : ℕ) : Type 0 where
-  pub file : File
-  pub there : disk (log_name log.number) ≡ Some file
-  pub within : synced ≤ length batches
-  pub front : file.front ≡ log_of (take synced batches)
-  pub all : file.front ++ file.handed ≡ log_of batches
-  pub reads : log.failed ≡ false → file.read ≡ log_of batches
-  pub place : log.failed ≡ false → log.place ≡ length (log_of batches) % 32768
+abbrev pub HoldsBatches : Disk → LogFile → Batches → ℕ → Type 0
+HoldsBatches disk log batches synced = HoldsRecords disk (file_of log) (map record_of batches) synced
 
 -- after an append: one batch more, unless memory ran out
 abbrev pub HoldsOneMore : Result (Unit {0}) WalErr → Disk → LogFile → Batches → Batch → ℕ → Type 0

@@ -6,6 +6,7 @@ use Rattle.bl_names.specs.declared.name.FileName.TheVariants.{Log}
 use Rattle.bl_entry.specs.Batches.{batch_bytes}
 use Rattle.bl_entry.specs.declared.batch.Operation.{Operation}
 use Rattle.bl_log.specs.Layout.{layout}
+use Rattle.bl_records.specs.WrittenFile.{WrittenFile}
 
 abbrev pub log_name : ℕ → Name
 log_name number = name_of (Log number)
@@ -26,3 +27,7 @@ record_bytes place first operations = layout place (batch_bytes first operations
 -- the log behind these bytes more
 abbrev pub behind : LogFile → List ℕ → LogFile
 behind log bytes = record { number = log.number; place = (log.place + length bytes) % 32768; failed = log.failed }
+
+-- the file that it is
+abbrev pub file_of : LogFile → WrittenFile
+file_of log = record { name = log_name log.number; place = log.place; failed = log.failed }

@@ -3,13 +3,11 @@
 ghost use Rattle.std.specs.Prelude.{◌≡◌};
 ghost use Rattle.bl_wal.specs.declared.error.WalErr.TheVariants.{OutOfMemory};
 
-use bl_code::{CodeErr, Octets};
+use bl_code::Octets;
 use bl_entry::EntryErr;
-use bl_log::LogErr;
 use bl_names::NameErr;
-use bl_records::ReadErr;
-use bl_site::SiteErr;
-use std::alloc::{AllocError, AllocFailed};
+use bl_records::RecordErr;
+use std::alloc::AllocFailed;
 
 /// Why a call failed.
 #[derive(Drop)]
@@ -22,39 +20,10 @@ pub enum WalErr {
     OutOfMemory,
 }
 
-impl From<SiteErr> for WalErr {
-    ghost use Rattle.bl_wal.specs.Causes.{error_of};
-
-    ghost from_gives = { λ e w. w ≡ error_of e };
-
-    fn from(error: SiteErr) -> WalErr {
-        match error {
-            SiteErr::DiskFailed | SiteErr::TellFailed => WalErr::Disk,
-            SiteErr::OutOfMemory => WalErr::OutOfMemory,
-        }
-    }
-}
-
-impl From<AllocError> for WalErr {
-    ghost from_gives = { λ _ w. w ≡ OutOfMemory };
-
-    fn from(_: AllocError) -> WalErr {
-        WalErr::OutOfMemory
-    }
-}
-
 impl<T: Drop> From<AllocFailed<T>> for WalErr {
     ghost from_gives = { λ _ w. w ≡ OutOfMemory };
 
     fn from(_: AllocFailed<T>) -> WalErr {
-        WalErr::OutOfMemory
-    }
-}
-
-impl From<CodeErr> for WalErr {
-    ghost from_gives = { λ _ w. w ≡ OutOfMemory };
-
-    fn from(_: CodeErr) -> WalErr {
         WalErr::OutOfMemory
     }
 }
@@ -67,14 +36,6 @@ impl From<EntryErr> for WalErr {
     }
 }
 
-impl From<LogErr> for WalErr {
-    ghost from_gives = { λ _ w. w ≡ OutOfMemory };
-
-    fn from(_: LogErr) -> WalErr {
-        WalErr::OutOfMemory
-    }
-}
-
 impl From<NameErr> for WalErr {
     ghost from_gives = { λ _ w. w ≡ OutOfMemory };
 
@@ -83,15 +44,15 @@ impl From<NameErr> for WalErr {
     }
 }
 
-impl From<ReadErr> for WalErr {
-    ghost use Rattle.bl_wal.specs.Causes.{read_error_of};
+impl From<RecordErr> for WalErr {
+    ghost use Rattle.bl_wal.specs.Causes.{error_of};
 
-    ghost from_gives = { λ e w. w ≡ read_error_of e };
+    ghost from_gives = { λ e w. w ≡ error_of e };
 
-    fn from(error: ReadErr) -> WalErr {
+    fn from(error: RecordErr) -> WalErr {
         match error {
-            ReadErr::Disk => WalErr::Disk,
-            ReadErr::OutOfMemory => WalErr::OutOfMemory,
+            RecordErr::Disk => WalErr::Disk,
+            RecordErr::OutOfMemory => WalErr::OutOfMemory,
         }
     }
 }

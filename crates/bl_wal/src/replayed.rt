@@ -1,9 +1,9 @@
 //! Replaying a log.
 
 ghost use Rattle.std.specs.Prelude.{◌≡◌, ℕ, ◌+◌, ◌<◌, ◌≤◌, ◌^◌, List, [], ◌∷◌, ◌++◌, length, Bool, Err, IfOk, IfErr, OnOk, IsErrOf, string_bytes, IsTrue, true, false, None, Some, ◌⊎◌};
-ghost use Rattle.bl_site.specs.Disk.{MayLeave, folder_of};
-ghost use Rattle.bl_site.specs.Calls.{KeepsDisk, Elapses};
+ghost use Rattle.bl_site.specs.Disk.{folder_of};
 ghost use Rattle.bl_site.specs.Causes.{Rose};
+ghost use Rattle.bl_site.specs.Quiet.{OnlyReads};
 ghost use Rattle.bl_names.specs.Names.{IsNumber};
 ghost use Rattle.bl_entry.specs.Batches.{IsOperation};
 ghost use Rattle.bl_entry.specs.Written.{entry, entries_from};
@@ -126,13 +126,8 @@ pub fn replay<S: Site>(
     ensures ended { S.shows → IfOk result (λ r. EndsAt (folder_of (S.disk site.old)) number r.ended) }
     ensures corrupt { S.shows → (file : List ℕ) (place : ℕ) → result ≡ Err (WalErr.Corrupt file place) → (file ≡ log_name number) × IsTorn (folder_of (S.disk site.old)) number last place }
     ensures named { (file : List ℕ) (place : ℕ) → result ≡ Err (WalErr.Corrupt file place) → file ≡ log_name number }
-    ensures stays { S.shows → KeepsDisk S.disk S.may_be S.certain site.old site.new }
-    ensures told { S.shows → S.told site.new ≡ S.told site.old }
-    ensures time { S.shows → Elapses (S.clock site.old) (S.clock site.new) (S.left_since site.old) (S.left_since site.new) (MayLeave (S.may_be site.old) (S.told site.old)) }
+    ensures quiet { OnlyReads S.Site site.old site.new }
     ensures disk { IsErrOf result WalErr.Disk → Rose (S.disk_faults site.old) (S.disk_faults site.new) }
-    ensures later { S.disk_faults site.old ≤ S.disk_faults site.new }
-    ensures tell_faults { S.tell_faults site.new ≡ S.tell_faults site.old }
-    ensures changes { S.changes site.new ≡ S.changes site.old }
 {
     let name = print_name(alloc, &FileName::Log(number))?;
     let mut records = RecordReader::open(alloc, name)?;

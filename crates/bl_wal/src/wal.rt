@@ -3,7 +3,8 @@
 ghost use Rattle.std.specs.Prelude.{◌≡◌, ℕ, ◌+◌, ◌≤◌, ◌^◌, ◌↔◌, [], true, false, length, IsTrue, IsSome, IfOk, IfErr, OnOk, OnErr, IsErrOf};
 ghost use Rattle.bl_site.specs.Disk.{Disk, MayLeave};
 ghost use Rattle.bl_site.specs.Calls.{Creates, Appends, AppendsAny, Syncs, Frays, DoneOrNot, MayDuring, InDoubt, FollowsFile, KeepsDisk, StandsStill, Elapses};
-ghost use Rattle.bl_site.specs.Causes.{Rose, one_more};
+ghost use Rattle.bl_site.specs.Causes.{one_more};
+ghost use Rattle.bl_site.specs.Quiet.{TellsNothing, HasCauses};
 ghost use Rattle.bl_names.specs.Names.{IsNumber};
 ghost use Rattle.bl_wal.specs.Causes.{IsCause, ChangesOnce};
 ghost use Rattle.bl_wal.specs.LogFile.{log_name, new_log, record_bytes, behind};
@@ -11,8 +12,8 @@ ghost use Rattle.bl_wal.specs.Held.{Batches, IsReadBack, HoldsBatches, HoldsOneM
 
 use crate::error::WalErr;
 use bl_entry::{Batch, encode_batch};
-use bl_log::LogWriter;
 use bl_names::{FileName, print_name};
+use bl_records::RecordWriter;
 use bl_site::Site;
 use std::alloc::Global;
 use std::marker::Model;
@@ -20,22 +21,20 @@ use std::marker::Model;
 /// A log that is written: its number, and where its next record stands. A contract sees also whether a call of it has failed.
 #[derive(Drop)]
 pub struct Wal {
-    name: String,
     number: u64,
-    writer: LogWriter,
-    failed: bool,
+    records: RecordWriter,
 }
 
 impl Model for Wal {
-    ghost use Rattle.std.specs.Prelude.{◌≡◌, string_bytes};
+    ghost use Rattle.std.specs.Prelude.{◌≡◌};
     ghost use Rattle.bl_names.specs.Names.{IsNumber};
     ghost use Rattle.bl_wal.specs.LogFile.{LogFile, log_name};
 
     ghost Value = { LogFile };
 
-    ghost view = { λ w. record { number = w.number; place = w.writer; failed = w.failed } };
+    ghost view = { λ w. record { number = w.number; place = w.records.place; failed = w.records.failed } };
 
-    ghost invariant = { λ w. IsNumber w.number × (string_bytes w.name ≡ log_name w.number) };
+    ghost invariant = { λ w. IsNumber w.number × (w.records.name ≡ log_name w.number) };
 }
 
 impl Wal {
@@ -60,22 +59,14 @@ impl Wal {
             (MayLeave (MayDuring (Creates (log_name number)) (S.may_be site.old)) (S.told site.old)) }
         ensures still { S.shows → IsErrOf result WalErr.OutOfMemory → StandsStill S.clock S.left_since site.old site.new }
 
-        ensures told { S.shows → S.told site.new ≡ S.told site.old }
-        ensures causes { IfErr result IsCause }
-        ensures disk { IsErrOf result WalErr.Disk → Rose (S.disk_faults site.old) (S.disk_faults site.new) }
-        ensures no_fault { IsErrOf result WalErr.OutOfMemory → S.disk_faults site.new ≡ S.disk_faults site.old }
-        ensures later { S.disk_faults site.old ≤ S.disk_faults site.new }
-        ensures tell_faults { S.tell_faults site.new ≡ S.tell_faults site.old }
+        ensures tells_nothing { TellsNothing S.Site site.old site.new }
+        ensures errors { IfErr result IsCause }
+        ensures causes { HasCauses S.Site WalErr.Disk WalErr.OutOfMemory result site.old site.new }
         ensures changes { ChangesOnce result (S.changes site.old) (S.changes site.new) }
     {
         let name = print_name(alloc, &FileName::Log(number))?;
-        site.create(name.as_str())?;
-        Ok(Wal {
-            name,
-            number,
-            writer: LogWriter::start(),
-            failed: false,
-        })
+        let records = RecordWriter::create(alloc, site, name)?;
+        Ok(Wal { number, records })
     }
 
     /// Appends a batch as one record. Its operations have the sequences from `first` on, all below 2^56. The log is in the folder,
@@ -121,22 +112,13 @@ impl Wal {
             (MayLeave (S.may_be site.new) (S.told site.new)) }
         ensures still { S.shows → IsErrOf result WalErr.OutOfMemory → StandsStill S.clock S.left_since site.old site.new }
 
-        ensures told { S.shows → S.told site.new ≡ S.told site.old }
-        ensures causes { IfErr result IsCause }
-        ensures disk { IsErrOf result WalErr.Disk → Rose (S.disk_faults site.old) (S.disk_faults site.new) }
-        ensures no_fault { IsErrOf result WalErr.OutOfMemory → S.disk_faults site.new ≡ S.disk_faults site.old }
-        ensures later { S.disk_faults site.old ≤ S.disk_faults site.new }
-        ensures tell_faults { S.tell_faults site.new ≡ S.tell_faults site.old }
+        ensures tells_nothing { TellsNothing S.Site site.old site.new }
+        ensures errors { IfErr result IsCause }
+        ensures causes { HasCauses S.Site WalErr.Disk WalErr.OutOfMemory result site.old site.new }
     {
         let payload = encode_batch(alloc, first, batch)?;
-        let bytes = self.writer.frame(alloc, payload.as_slice())?;
-        match site.append(self.name.as_str(), bytes.as_slice()) {
-            Ok(()) => Ok(()),
-            Err(error) => {
-                self.failed = true;
-                Err(error.into())
-            }
-        }
+        self.records.append(site, payload.as_slice())?;
+        Ok(())
     }
 
     /// Syncs the log: every cut from now on keeps all that was appended. The log is in the folder, and no call of it has failed. It
@@ -164,17 +146,12 @@ impl Wal {
             (MayLeave (S.may_be site.new) (S.told site.new)) }
         ensures still { S.shows → IsErrOf result WalErr.OutOfMemory → StandsStill S.clock S.left_since site.old site.new }
 
-        ensures told { S.shows → S.told site.new ≡ S.told site.old }
-        ensures causes { IfErr result IsCause }
-        ensures disk { IsErrOf result WalErr.Disk → Rose (S.disk_faults site.old) (S.disk_faults site.new) }
-        ensures no_fault { IsErrOf result WalErr.OutOfMemory → S.disk_faults site.new ≡ S.disk_faults site.old }
-        ensures later { S.disk_faults site.old ≤ S.disk_faults site.new }
-        ensures tell_faults { S.tell_faults site.new ≡ S.tell_faults site.old }
+        ensures tells_nothing { TellsNothing S.Site site.old site.new }
+        ensures errors { IfErr result IsCause }
+        ensures causes { HasCauses S.Site WalErr.Disk WalErr.OutOfMemory result site.old site.new }
         ensures changes { S.changes site.new ≡ one_more (S.changes site.old) }
     {
-        let synced = site.sync(self.name.as_str());
-        self.failed = synced.is_err();
-        synced?;
+        self.records.sync(site)?;
         Ok(())
     }
 
@@ -182,6 +159,6 @@ impl Wal {
     pub fn failed(&self) -> bool
         ensures { result ≡ self.now.failed }
     {
-        self.failed
+        self.records.failed()
     }
 }

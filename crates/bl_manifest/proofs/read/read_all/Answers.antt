@@ -2,7 +2,7 @@ use Rattle.std.proofs.Common.{◌≡◌, true, false, inl, refl, sym, ◌∙◌,
 use Rattle.bl_site.specs.Disk.{Disk, folder_of}
 use Rattle.bl_names.specs.Names.{manifest_name}
 use Rattle.bl_records.proofs.AnswerLemmas.{record_of, end_of}
-use Rattle.bl_records.proofs.QuietCalls.{keeps_none, keeps_then, elapses_none, elapses_then}
+use Rattle.bl_site.proofs.Quiet.{reads_nothing, reads_on}
 use Rattle.bl_manifest.proofs.ProgressLemmas.{begins, record_taken, ended, ended_short, broke_off, taken_of, corrupt_is}
 use Rattle.bl_manifest.proofs.read.read_all.Goals as goal
 
@@ -12,56 +12,33 @@ records-init g c =
     record {
       name = c.in_ok-records.ensures.name ∙ c.in_ok-name.ensures;
       progress = λ shown. begins (folder_of (site.disk c.args.site.now) (manifest_name c.args.number)) c.in_ok-records.records c.empty-version.result c.new-known.result (c.in_ok-records.ensures.begins _) c.empty-version.ensures c.new-known.ensures;
-      stays = λ shown. keeps_none site.disk site.may_be site.certain c.args.site.now;
-      told = λ shown. refl;
-      time = λ shown. elapses_none site.disk site.may_be site.certain site.told site.clock site.left_since c.args.site.now;
-      later = omega arith;
-      tell_faults = refl;
-      changes = refl;
+      quiet = reads_nothing site c.args.site.now;
     }
 
-pub returns-in_err-payload-clause-time : goal.returns-in_err-payload-clause-time
-returns-in_err-payload-clause-time g c = λ shown.
-    let site = g.S.Site in
-    elapses_then site.disk site.may_be site.certain site.told site.clock site.left_since c.args.site.now c.records.site c.next.new.site (c.records.invariant.stays shown) (c.records.invariant.told shown)
-    (c.records.invariant.time shown) (c.next.ensures.time shown)
+pub returns-in_err-payload-clause-quiet : goal.returns-in_err-payload-clause-quiet
+returns-in_err-payload-clause-quiet g c = reads_on g.S.Site c.args.site.now c.records.site c.next.new.site c.records.invariant.quiet c.next.ensures.quiet
 
-pub returns-in_err-goes_on-in-Record-clause-time : goal.returns-in_err-goes_on-in-Record-clause-time
-returns-in_err-goes_on-in-Record-clause-time g c = λ shown.
-    let site = g.S.Site in
-    elapses_then site.disk site.may_be site.certain site.told site.clock site.left_since c.args.site.now c.records.site c.next.new.site (c.records.invariant.stays shown) (c.records.invariant.told shown)
-    (c.records.invariant.time shown) (c.next.ensures.time shown)
+pub returns-in_err-goes_on-in-Record-clause-quiet : goal.returns-in_err-goes_on-in-Record-clause-quiet
+returns-in_err-goes_on-in-Record-clause-quiet g c = reads_on g.S.Site c.args.site.now c.records.site c.next.new.site c.records.invariant.quiet c.next.ensures.quiet
 
-pub returns-then-not-goes_on-clause-time : goal.returns-then-not-goes_on-clause-time
-returns-then-not-goes_on-clause-time g c = λ shown.
-    let site = g.S.Site in
-    elapses_then site.disk site.may_be site.certain site.told site.clock site.left_since c.args.site.now c.records.site c.next.new.site (c.records.invariant.stays shown) (c.records.invariant.told shown)
-    (c.records.invariant.time shown) (c.next.ensures.time shown)
+pub returns-then-not-goes_on-clause-quiet : goal.returns-then-not-goes_on-clause-quiet
+returns-then-not-goes_on-clause-quiet g c = reads_on g.S.Site c.args.site.now c.records.site c.next.new.site c.records.invariant.quiet c.next.ensures.quiet
 
-pub returns-in_default-clause-time : goal.returns-in_default-clause-time
-returns-in_default-clause-time g c = λ shown.
-    let site = g.S.Site in
-    elapses_then site.disk site.may_be site.certain site.told site.clock site.left_since c.args.site.now c.records.site c.next.new.site (c.records.invariant.stays shown) (c.records.invariant.told shown)
-    (c.records.invariant.time shown) (c.next.ensures.time shown)
+pub returns-in_default-clause-quiet : goal.returns-in_default-clause-quiet
+returns-in_default-clause-quiet g c = reads_on g.S.Site c.args.site.now c.records.site c.next.new.site c.records.invariant.quiet c.next.ensures.quiet
 
-pub returns-in-End-clause-time : goal.returns-in-End-clause-time
-returns-in-End-clause-time g c = λ shown.
-    let site = g.S.Site in
-    elapses_then site.disk site.may_be site.certain site.told site.clock site.left_since c.args.site.now c.records.site c.next.new.site (c.records.invariant.stays shown) (c.records.invariant.told shown)
-    (c.records.invariant.time shown) (c.next.ensures.time shown)
+pub returns-in-End-clause-quiet : goal.returns-in-End-clause-quiet
+returns-in-End-clause-quiet g c = reads_on g.S.Site c.args.site.now c.records.site c.next.new.site c.records.invariant.quiet c.next.ensures.quiet
 
-pub returns-in-Absent-clause-time : goal.returns-in-Absent-clause-time
-returns-in-Absent-clause-time g c = λ shown.
-    let site = g.S.Site in
-    elapses_then site.disk site.may_be site.certain site.told site.clock site.left_since c.args.site.now c.records.site c.next.new.site (c.records.invariant.stays shown) (c.records.invariant.told shown)
-    (c.records.invariant.time shown) (c.next.ensures.time shown)
+pub returns-in-Absent-clause-quiet : goal.returns-in-Absent-clause-quiet
+returns-in-Absent-clause-quiet g c = reads_on g.S.Site c.args.site.now c.records.site c.next.new.site c.records.invariant.quiet c.next.ensures.quiet
 
 pub returns-then-not-goes_on-clause-corrupt : goal.returns-then-not-goes_on-clause-corrupt
 returns-then-not-goes_on-clause-corrupt g c = λ shown file place e.
     let site = g.S.Site in
     let folder = folder_of (site.disk c.args.site.now) in
     let same : folder_of (site.disk c.records.site) c.records.records.name ≡ folder (manifest_name c.args.number) =
-    ap (λ (d : Disk). folder_of d c.records.records.name) (c.records.invariant.stays shown).same ∙ ap folder c.records.invariant.name in
+    ap (λ (d : Disk). folder_of d c.records.records.name) (c.records.invariant.quiet.stays shown).same ∙ ap folder c.records.invariant.name in
     let is = corrupt_is c.corrupt.result c.name.result.now file c.place.result place c.corrupt.ensures (cc e) in
     let t = taken_of c.in_ok-goes_on-in-Record.goes_on false c.in-Record.payload c.as_slice.result.now _ _ _ _ c.if-not-goes_on.true c.as_slice.ensures c.in_ok-goes_on-in-Record.ensures.taken in (
       is.0 ∙ c.name.ensures ∙ c.next.ensures.name ∙ c.records.invariant.name,
@@ -74,7 +51,7 @@ returns-in_default-clause-corrupt g c = λ shown file place e.
     let site = g.S.Site in
     let folder = folder_of (site.disk c.args.site.now) in
     let same : folder_of (site.disk c.records.site) c.records.records.name ≡ folder (manifest_name c.args.number) =
-    ap (λ (d : Disk). folder_of d c.records.records.name) (c.records.invariant.stays shown).same ∙ ap folder c.records.invariant.name in
+    ap (λ (d : Disk). folder_of d c.records.records.name) (c.records.invariant.quiet.stays shown).same ∙ ap folder c.records.invariant.name in
     let is = corrupt_is c.corrupt-in_default.result c.name-in_default.result.now file c.in-End.place place c.corrupt-in_default.ensures (cc e) in (
       is.0 ∙ c.name-in_default.ensures ∙ c.next.ensures.name ∙ c.records.invariant.name,
       ended_short c.placed_records_are_records.ensures folder c.args.number c.records.records c.records.version c.records.known c.in-End.place c.in-End.field-1 place
@@ -86,7 +63,7 @@ returns-in-Absent-clause-corrupt g c = λ shown file place e.
     let site = g.S.Site in
     let folder = folder_of (site.disk c.args.site.now) in
     let same : folder_of (site.disk c.records.site) c.records.records.name ≡ folder (manifest_name c.args.number) =
-    ap (λ (d : Disk). folder_of d c.records.records.name) (c.records.invariant.stays shown).same ∙ ap folder c.records.invariant.name in
+    ap (λ (d : Disk). folder_of d c.records.records.name) (c.records.invariant.quiet.stays shown).same ∙ ap folder c.records.invariant.name in
     let is = corrupt_is c.corrupt-in-Absent.result c.name-in-Absent.result.now file 0 place c.corrupt-in-Absent.ensures (cc e) in
     (is.0 ∙ c.name-in-Absent.ensures ∙ c.next.ensures.name ∙ c.records.invariant.name, inl (sym same ∙ c.in_ok-payload.ensures.absent shown c.in-Absent.is, is.1))
 
@@ -95,7 +72,7 @@ returns-in-End-clause-restored g c = λ shown.
     let site = g.S.Site in
     let folder = folder_of (site.disk c.args.site.now) in
     let same : folder_of (site.disk c.records.site) c.records.records.name ≡ folder (manifest_name c.args.number) =
-    ap (λ (d : Disk). folder_of d c.records.records.name) (c.records.invariant.stays shown).same ∙ ap folder c.records.invariant.name in
+    ap (λ (d : Disk). folder_of d c.records.records.name) (c.records.invariant.quiet.stays shown).same ∙ ap folder c.records.invariant.name in
     ended c.placed_records_are_records.ensures folder c.args.number c.records.records c.records.version c.records.known c.in-Some.standing c.in-End.place c.in-End.field-1
     (end_of c.in_ok-payload.field-0 c.in-End.place c.in-End.field-1 (folder_of (site.disk c.records.site) c.records.records.name) (folder (manifest_name c.args.number)) c.records.records c.next.new.self c.in-End.is same (c.in_ok-payload.ensures.answers shown)) (sym c.in-Some.ensures) (c.records.invariant.progress shown)
 
@@ -108,15 +85,8 @@ records-preserved g c =
       name = c.next.ensures.name ∙ c.records.invariant.name;
       progress = λ shown.
           let same : folder_of (site.disk c.records.site) c.records.records.name ≡ folder (manifest_name c.args.number) =
-          ap (λ (d : Disk). folder_of d c.records.records.name) (c.records.invariant.stays shown).same ∙ ap folder c.records.invariant.name in
+          ap (λ (d : Disk). folder_of d c.records.records.name) (c.records.invariant.quiet.stays shown).same ∙ ap folder c.records.invariant.name in
           record_taken (folder (manifest_name c.args.number)) c.records.records c.next.new.self c.in-Record.payload _ _ _ _
           (record_of c.in_ok-payload.field-0 c.in-Record.payload (folder_of (site.disk c.records.site) c.records.records.name) (folder (manifest_name c.args.number)) c.records.records c.next.new.self c.in-Record.is same (c.in_ok-payload.ensures.answers shown)) t (c.records.invariant.progress shown);
-      stays = λ shown. keeps_then site.disk site.may_be site.certain c.args.site.now c.records.site c.next.new.site (c.records.invariant.stays shown) (c.next.ensures.stays shown);
-      told = λ shown. c.next.ensures.told shown ∙ c.records.invariant.told shown;
-      time = λ shown.
-          elapses_then site.disk site.may_be site.certain site.told site.clock site.left_since c.args.site.now c.records.site c.next.new.site (c.records.invariant.stays shown) (c.records.invariant.told shown)
-          (c.records.invariant.time shown) (c.next.ensures.time shown);
-      later = omega (arith, c.next.ensures.later, c.records.invariant.later);
-      tell_faults = c.next.ensures.tell_faults ∙ c.records.invariant.tell_faults;
-      changes = c.next.ensures.changes ∙ c.records.invariant.changes;
+      quiet = reads_on site c.args.site.now c.records.site c.next.new.site c.records.invariant.quiet c.next.ensures.quiet;
     }

@@ -2,7 +2,7 @@ use Rattle.std.proofs.Common.{◌≡◌, ◌∙◌, ap, arith}
 use Rattle.bl_site.specs.Disk.{Disk, folder_of}
 use Rattle.bl_log.specs.Reading.{Reading}
 use Rattle.bl_records.proofs.FoundLemmas.{next_found, more_wanted, end_told, piece_fed, on_err, stays_found, wants_none}
-use Rattle.bl_records.proofs.QuietCalls.{elapses_then, keeps_then}
+use Rattle.bl_site.proofs.Quiet.{reads_on}
 use Rattle.bl_records.proofs.reader.read_next.Goals as goal
 
 pub returns-in_err-payload-clause-err : goal.returns-in_err-payload-clause-err
@@ -26,7 +26,7 @@ returns-in_err-there-in-NeedMore-clause-err g c = λ shown.
     let file = folder_of (site.disk c.args.site.now) c.args.name.now in
     on_err c.from_residual-in_err-there-in-NeedMore.result _
     (piece_fed c.args.name.now file (folder_of (site.disk c.pieces.site) c.args.name.now) c.args.offset.now c.pieces.offset c.feed_piece.new.offset c.args.reader.now c.pieces.reader c.next.new.self c.feed_piece.new.reader
-    (ap (λ (d : Disk). folder_of d c.args.name.now) (c.pieces.invariant.stays shown).same) (c.pieces.invariant.found shown)
+    (ap (λ (d : Disk). folder_of d c.args.name.now) (c.pieces.invariant.quiet.stays shown).same) (c.pieces.invariant.found shown)
     (more_wanted c.args.name.now file c.pieces.offset c.pieces.reader c.next.new.self c.in_ok-payload.field-0 c.in-NeedMore.is c.in_ok-payload.ensures.answers c.next.ensures.closed) (c.in_err-there-in-NeedMore.ensures.keeps shown))
 
 pub returns-then-not-there-clause-answers : goal.returns-then-not-there-clause-answers
@@ -34,7 +34,7 @@ returns-then-not-there-clause-answers g c = λ shown.
     let site = g.S.Site in
     let file = folder_of (site.disk c.args.site.now) c.args.name.now in
     piece_fed c.args.name.now file (folder_of (site.disk c.pieces.site) c.args.name.now) c.args.offset.now c.pieces.offset c.feed_piece.new.offset c.args.reader.now c.pieces.reader c.next.new.self c.feed_piece.new.reader
-    (ap (λ (d : Disk). folder_of d c.args.name.now) (c.pieces.invariant.stays shown).same) (c.pieces.invariant.found shown)
+    (ap (λ (d : Disk). folder_of d c.args.name.now) (c.pieces.invariant.quiet.stays shown).same) (c.pieces.invariant.found shown)
     (more_wanted c.args.name.now file c.pieces.offset c.pieces.reader c.next.new.self c.in_ok-payload.field-0 c.in-NeedMore.is c.in_ok-payload.ensures.answers c.next.ensures.closed) (c.in_ok-there-in-NeedMore.ensures.keeps shown)
 
 pub pieces-preserved : goal.pieces-preserved
@@ -45,18 +45,11 @@ pieces-preserved g c =
     record {
       found = λ shown.
           piece_fed c.args.name.now file (folder_of (site.disk c.pieces.site) c.args.name.now) c.args.offset.now c.pieces.offset c.feed_piece.new.offset c.args.reader.now c.pieces.reader c.next.new.self c.feed_piece.new.reader
-          (ap (λ (d : Disk). folder_of d c.args.name.now) (c.pieces.invariant.stays shown).same) (c.pieces.invariant.found shown)
+          (ap (λ (d : Disk). folder_of d c.args.name.now) (c.pieces.invariant.quiet.stays shown).same) (c.pieces.invariant.found shown)
           (more_wanted c.args.name.now file c.pieces.offset c.pieces.reader c.next.new.self c.in_ok-payload.field-0 c.in-NeedMore.is c.in_ok-payload.ensures.answers c.next.ensures.closed) (fed.keeps shown);
       first = λ none. absurd (omega (arith, none));
       not_ended = λ end is.
           let same : c.pieces.reader ≡ c.args.reader.now = (c.pieces.invariant.first (c.pieces.invariant.not_ended end is)).0 in
           absurd (wants_none c.in_ok-payload.field-0 c.next.new.self c.pieces.reader c.pieces.reader.ended end (ap (λ (r : Reading). r.ended) same ∙ is) c.in-NeedMore.is c.in_ok-payload.ensures.again);
-      stays = λ shown. keeps_then site.disk site.may_be site.certain c.args.site.now c.pieces.site c.feed_piece.new.site (c.pieces.invariant.stays shown) (fed.stays shown);
-      told = λ shown. fed.told shown ∙ c.pieces.invariant.told shown;
-      time = λ shown.
-          elapses_then site.disk site.may_be site.certain site.told site.clock site.left_since c.args.site.now c.pieces.site c.feed_piece.new.site (c.pieces.invariant.stays shown) (c.pieces.invariant.told shown)
-          (c.pieces.invariant.time shown) (fed.time shown);
-      later = omega (arith, fed.later, c.pieces.invariant.later);
-      tell_faults = fed.tell_faults ∙ c.pieces.invariant.tell_faults;
-      changes = fed.changes ∙ c.pieces.invariant.changes;
+      quiet = reads_on site c.args.site.now c.pieces.site c.feed_piece.new.site c.pieces.invariant.quiet fed.quiet;
     }

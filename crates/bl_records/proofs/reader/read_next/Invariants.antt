@@ -1,6 +1,6 @@
-use Rattle.std.proofs.Common.{◌≡◌, ℕ, ◌≤◌, List, Some}
-use Rattle.bl_site.specs.Disk.{folder_of, MayLeave}
-use Rattle.bl_site.specs.Calls.{KeepsDisk, Elapses}
+use Rattle.std.proofs.Common.{◌≡◌, ℕ, List, Some}
+use Rattle.bl_site.specs.Disk.{folder_of}
+use Rattle.bl_site.specs.Quiet.{OnlyReads}
 use Rattle.bl_log.specs.declared.cause.EndCause.{EndCause}
 use Rattle.bl_records.specs.FileReading.{reading_at, HasFound}
 use Rattle.bl_records.proofs.reader.read_next.Given as goal
@@ -13,10 +13,5 @@ invariant-pieces g l =
           → HasFound (folder_of (site.disk l.fn.site) l.fn.name) found (reading_at l.fn.name l.offset l.reader);
       first : l._piece ≡ 0 → (l.reader ≡ l.fn.reader) × (l.offset ≡ l.fn.offset) × (l.site ≡ l.fn.site);
       not_ended : (end : ℕ × EndCause) → l.fn.reader.ended ≡ Some end → l._piece ≡ 0;
-      stays : site.shows → KeepsDisk site.disk site.may_be site.certain l.fn.site l.site;
-      told : site.shows → site.told l.site ≡ site.told l.fn.site;
-      time : site.shows → Elapses (site.clock l.fn.site) (site.clock l.site) (site.left_since l.fn.site) (site.left_since l.site) (MayLeave (site.may_be l.fn.site) (site.told l.fn.site));
-      later : site.disk_faults l.fn.site ≤ site.disk_faults l.site;
-      tell_faults : site.tell_faults l.site ≡ site.tell_faults l.fn.site;
-      changes : site.changes l.site ≡ site.changes l.fn.site;
+      quiet : OnlyReads site l.fn.site l.site;
     }

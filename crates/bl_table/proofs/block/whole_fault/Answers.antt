@@ -1,6 +1,6 @@
 use Rattle.std.proofs.Common.{ap, sym, arith, inl, inr}
 use Rattle.bl_table.specs.Blocks.{Contents}
-use Rattle.bl_table.proofs.BlockLemmas.{block_unfit, block_faulty, trailer_faulty}
+use Rattle.bl_table.proofs.BlockLemmas.{block_unfit, first_faulty}
 use Rattle.bl_table.proofs.block.whole_fault.Goals as goal
 use Rattle.bl_table.proofs.block.whole_fault.Goals.{then-size-lt-TRAILER-via-then-size-lt-TRAILER, then-size-lt-TRAILER-via-else-size-lt-TRAILER+then-size-handle, then-size-lt-TRAILER-via-else-size-lt-TRAILER+else-size-handle+then-handle-size}
 
@@ -11,16 +11,10 @@ returns-then-size-lt-TRAILER c = ap (λ (b : Contents). b.fault) (sym (block_unf
   | then-size-lt-TRAILER-via-else-size-lt-TRAILER+else-size-handle+then-handle-size w ↦ inr (let t = w.if-handle-size.true in let s = w.if-size-handle.false in let l = w.if-size-lt-TRAILER.false in omega arith)
 ])))
 
-pub returns-in-Some : goal.returns-in-Some
-returns-in-Some c =
-    let s = c.if-size-handle.false in
-    let l = c.if-size-lt-TRAILER.false in
-    let f = c.if-handle-size.false in
-    block_faulty c.args.bytes.now c.args.handle (c.in-Some.fault.rule, c.in-Some.fault.place) (omega arith) (omega arith) (rw (c.in-Some.is, c.split_at.ensures.front) at c.in_ok-fault.ensures)
-
 pub returns : goal.returns
 returns c =
     let s = c.if-size-handle.false in
     let l = c.if-size-lt-TRAILER.false in
     let f = c.if-handle-size.false in
-    trailer_faulty c.args.bytes.now c.args.handle _ (omega arith) (omega arith) (rw (c.in_default.is, c.split_at.ensures.front) at c.in_ok-fault.ensures) (rw (c.split_at.ensures.front, c.split_at.ensures.back) at c.trailer_fault.ensures)
+    first_faulty c.args.bytes.now c.args.handle _ _ _ (omega arith) (omega arith) (rw c.split_at.ensures.front at c.in_ok-of_block.ensures)
+    (rw (c.split_at.ensures.front, c.split_at.ensures.back) at c.trailer_fault-of_trailer.ensures) c.first_of.ensures

@@ -39,16 +39,17 @@ cells-preserved c =
     let count : c.len-from.result ≡ length c.cells.entries.items = search rules in
     let key : c.swap.new.x.items ≡ c.next_entry.new.key.items = ap (λ (v : Vec ℕ Global). v.items) c.swap.ensures.x_after in
     let P : List ℕ → Type 0 = λ k. Leaves c.next_entry.new.taker k on.more in
-    let Q : List ℕ → Type 0 = λ k. Reading (fault_of c.first_of-fault.result) (c.args.offset + c.in-Some.entry.place) k c.read_data.new.entries.items (map f on.more) (data_fault None (map f (cells_in c.args.index.now).cells)) (entries_in (map f (cells_in c.args.index.now).cells)) in
+    let Q : List ℕ → Type 0 = λ k. Reading (fault_of c.first_of-fault.result) (c.args.offset + c.in-Some.entry.place) k c.keep_needed.new.entries.items (map f on.more) (data_fault None (map f (cells_in c.args.index.now).cells)) (entries_in (map f (cells_in c.args.index.now).cells)) in
     record {
       total = moves_total 3 c.cells.taker c.next_entry.new.taker moves ∙ c.cells.invariant.total;
       left = on.more;
       leaves = subst P (sym key) on.leaves;
-      reading = subst Q (sym key) (reading_goes_on (fault_of c.cells.fault) (fault_of c.first_of-fault.result) (fault_of c.order_fault-order.result) (fault_of c.in_ok-found.found) c.cells.at c.cells.before.items c.cells.entries.items c.read_data.new.entries.items
+      reading = subst Q (sym key) (reading_goes_on (fault_of c.cells.fault) (fault_of c.first_of-fault.result) (fault_of c.order_fault-order.result) (fault_of c.in_ok-found.found) c.cells.at c.cells.before.items c.cells.entries.items c.read_data.new.entries.items c.keep_needed.new.entries.items
           (f cell) (map f c.cells.invariant.left) (map f on.more) (data_fault None (map f (cells_in c.args.index.now).cells)) (entries_in (map f (cells_in c.args.index.now).cells))
           c.cells.invariant.reading (ap (map f) on.is) c.in_ok-found.ensures.entries
           (rw (c.deref-in-cells.ensures.value, c.deref-in-cells-2.ensures.value, c.deref-in-cells-3.ensures.value, count) at c.order_fault-order.ensures) c.in_ok-found.ensures.fault
-          (c.first_of-fault.ensures ∙ ap (λ o. fault_of c.cells.fault and o) c.first_of.ensures));
+          (c.first_of-fault.ensures ∙ ap (λ o. fault_of c.cells.fault and o) c.first_of.ensures)
+          c.in_ok-keep_needed.ensures.whole c.in_ok-keep_needed.ensures.last);
     }
 
 ended : (c : goal.After-drop-before-2) → map (data_at c.args.table.now c.args.offset) c.cells.invariant.left ≡ []

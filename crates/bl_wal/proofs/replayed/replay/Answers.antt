@@ -1,8 +1,8 @@
-use Rattle.std.proofs.Common.{◌≡◌, List, true, false, inl, refl, sym, ◌∙◌, ap, subst, arith}
+use Rattle.std.proofs.Common.{◌≡◌, List, true, false, inl, sym, ◌∙◌, ap, subst}
 use Rattle.bl_site.specs.Disk.{Disk, folder_of}
 use Rattle.bl_entry.specs.declared.key.Entry.{Entry}
 use Rattle.bl_records.proofs.AnswerLemmas.{record_of, end_of}
-use Rattle.bl_records.proofs.QuietCalls.{keeps_none, keeps_then, elapses_none, elapses_then}
+use Rattle.bl_site.proofs.Quiet.{reads_nothing, reads_on}
 use Rattle.bl_wal.specs.LogFile.{log_name}
 use Rattle.bl_wal.specs.Replay.{HasEntries}
 use Rattle.bl_wal.proofs.ProgressLemmas.{begins, record_taken, ended, ends_at, broke_off, taken_of, corrupt_is}
@@ -14,50 +14,30 @@ records-init g c =
     record {
       name = c.in_ok-records.ensures.name ∙ c.in_ok-name.ensures;
       progress = λ shown. begins c.args.last (folder_of (site.disk c.args.site.now) (log_name c.args.number)) c.in_ok-records.records c.new-entries.result.items (c.in_ok-records.ensures.begins _) c.new-entries.ensures.items;
-      stays = λ shown. keeps_none site.disk site.may_be site.certain c.args.site.now;
-      told = λ shown. refl;
-      time = λ shown. elapses_none site.disk site.may_be site.certain site.told site.clock site.left_since c.args.site.now;
-      later = omega arith;
-      tell_faults = refl;
-      changes = refl;
+      quiet = reads_nothing site c.args.site.now;
     }
 
-pub returns-in_err-payload-clause-time : goal.returns-in_err-payload-clause-time
-returns-in_err-payload-clause-time g c = λ shown.
-    let site = g.S.Site in
-    elapses_then site.disk site.may_be site.certain site.told site.clock site.left_since c.args.site.now c.records.site c.next.new.site (c.records.invariant.stays shown) (c.records.invariant.told shown)
-    (c.records.invariant.time shown) (c.next.ensures.time shown)
+pub returns-in_err-payload-clause-quiet : goal.returns-in_err-payload-clause-quiet
+returns-in_err-payload-clause-quiet g c = reads_on g.S.Site c.args.site.now c.records.site c.next.new.site c.records.invariant.quiet c.next.ensures.quiet
 
-pub returns-in_err-goes_on-in-Record-clause-time : goal.returns-in_err-goes_on-in-Record-clause-time
-returns-in_err-goes_on-in-Record-clause-time g c = λ shown.
-    let site = g.S.Site in
-    elapses_then site.disk site.may_be site.certain site.told site.clock site.left_since c.args.site.now c.records.site c.next.new.site (c.records.invariant.stays shown) (c.records.invariant.told shown)
-    (c.records.invariant.time shown) (c.next.ensures.time shown)
+pub returns-in_err-goes_on-in-Record-clause-quiet : goal.returns-in_err-goes_on-in-Record-clause-quiet
+returns-in_err-goes_on-in-Record-clause-quiet g c = reads_on g.S.Site c.args.site.now c.records.site c.next.new.site c.records.invariant.quiet c.next.ensures.quiet
 
-pub returns-then-not-goes_on-clause-time : goal.returns-then-not-goes_on-clause-time
-returns-then-not-goes_on-clause-time g c = λ shown.
-    let site = g.S.Site in
-    elapses_then site.disk site.may_be site.certain site.told site.clock site.left_since c.args.site.now c.records.site c.next.new.site (c.records.invariant.stays shown) (c.records.invariant.told shown)
-    (c.records.invariant.time shown) (c.next.ensures.time shown)
+pub returns-then-not-goes_on-clause-quiet : goal.returns-then-not-goes_on-clause-quiet
+returns-then-not-goes_on-clause-quiet g c = reads_on g.S.Site c.args.site.now c.records.site c.next.new.site c.records.invariant.quiet c.next.ensures.quiet
 
-pub returns-in-End-clause-time : goal.returns-in-End-clause-time
-returns-in-End-clause-time g c = λ shown.
-    let site = g.S.Site in
-    elapses_then site.disk site.may_be site.certain site.told site.clock site.left_since c.args.site.now c.records.site c.next.new.site (c.records.invariant.stays shown) (c.records.invariant.told shown)
-    (c.records.invariant.time shown) (c.next.ensures.time shown)
+pub returns-in-End-clause-quiet : goal.returns-in-End-clause-quiet
+returns-in-End-clause-quiet g c = reads_on g.S.Site c.args.site.now c.records.site c.next.new.site c.records.invariant.quiet c.next.ensures.quiet
 
-pub returns-in-Absent-clause-time : goal.returns-in-Absent-clause-time
-returns-in-Absent-clause-time g c = λ shown.
-    let site = g.S.Site in
-    elapses_then site.disk site.may_be site.certain site.told site.clock site.left_since c.args.site.now c.records.site c.next.new.site (c.records.invariant.stays shown) (c.records.invariant.told shown)
-    (c.records.invariant.time shown) (c.next.ensures.time shown)
+pub returns-in-Absent-clause-quiet : goal.returns-in-Absent-clause-quiet
+returns-in-Absent-clause-quiet g c = reads_on g.S.Site c.args.site.now c.records.site c.next.new.site c.records.invariant.quiet c.next.ensures.quiet
 
 pub returns-then-not-goes_on-clause-corrupt : goal.returns-then-not-goes_on-clause-corrupt
 returns-then-not-goes_on-clause-corrupt g c = λ shown file place e.
     let site = g.S.Site in
     let folder = folder_of (site.disk c.args.site.now) in
     let same : folder_of (site.disk c.records.site) c.records.records.name ≡ folder (log_name c.args.number) =
-    ap (λ (d : Disk). folder_of d c.records.records.name) (c.records.invariant.stays shown).same ∙ ap folder c.records.invariant.name in
+    ap (λ (d : Disk). folder_of d c.records.records.name) (c.records.invariant.quiet.stays shown).same ∙ ap folder c.records.invariant.name in
     let is = corrupt_is c.corrupt.result c.name.result.now file c.place.result place c.corrupt.ensures (cc e) in
     let t = taken_of c.in_ok-goes_on-in-Record.goes_on false c.in-Record.payload c.as_slice.result.now _ _ _ _ c.if-not-goes_on.true c.as_slice.ensures c.in_ok-goes_on-in-Record.ensures.taken in (
       is.0 ∙ c.name.ensures ∙ c.next.ensures.name ∙ c.records.invariant.name,
@@ -70,7 +50,7 @@ returns-in-Absent-clause-corrupt g c = λ shown file place e.
     let site = g.S.Site in
     let folder = folder_of (site.disk c.args.site.now) in
     let same : folder_of (site.disk c.records.site) c.records.records.name ≡ folder (log_name c.args.number) =
-    ap (λ (d : Disk). folder_of d c.records.records.name) (c.records.invariant.stays shown).same ∙ ap folder c.records.invariant.name in
+    ap (λ (d : Disk). folder_of d c.records.records.name) (c.records.invariant.quiet.stays shown).same ∙ ap folder c.records.invariant.name in
     let is = corrupt_is c.corrupt-in-Absent.result c.name-in-Absent.result.now file 0 place c.corrupt-in-Absent.ensures (cc e) in
     (is.0 ∙ c.name-in-Absent.ensures ∙ c.next.ensures.name ∙ c.records.invariant.name, inl (sym same ∙ c.in_ok-payload.ensures.absent shown c.in-Absent.is, is.1))
 
@@ -79,7 +59,7 @@ returns-in-End-clause-replayed g c = λ shown.
     let site = g.S.Site in
     let folder = folder_of (site.disk c.args.site.now) in
     let same : folder_of (site.disk c.records.site) c.records.records.name ≡ folder (log_name c.args.number) =
-    ap (λ (d : Disk). folder_of d c.records.records.name) (c.records.invariant.stays shown).same ∙ ap folder c.records.invariant.name in
+    ap (λ (d : Disk). folder_of d c.records.records.name) (c.records.invariant.quiet.stays shown).same ∙ ap folder c.records.invariant.name in
     let P : List Entry → Type 0 = λ es. HasEntries folder c.args.number c.args.last es c.records.last_taken in
     subst P (sym c.from_vec-entries.ensures)
     (ended c.placed_records_are_records.ensures folder c.args.number c.args.last c.records.records c.records.entries.items c.records.last_taken c.in-End.place c.in-End.cause
@@ -91,7 +71,7 @@ returns-in-End-clause-ended g c = λ shown.
     let site = g.S.Site in
     let folder = folder_of (site.disk c.args.site.now) in
     let same : folder_of (site.disk c.records.site) c.records.records.name ≡ folder (log_name c.args.number) =
-    ap (λ (d : Disk). folder_of d c.records.records.name) (c.records.invariant.stays shown).same ∙ ap folder c.records.invariant.name in
+    ap (λ (d : Disk). folder_of d c.records.records.name) (c.records.invariant.quiet.stays shown).same ∙ ap folder c.records.invariant.name in
     ends_at folder c.args.number c.args.last c.records.records c.records.entries.items c.records.last_taken c.in-End.place c.in-End.cause
     (end_of c.in_ok-payload.field-0 c.in-End.place c.in-End.cause (folder_of (site.disk c.records.site) c.records.records.name) (folder (log_name c.args.number)) c.records.records c.next.new.self c.in-End.is same (c.in_ok-payload.ensures.answers shown))
     (c.records.invariant.progress shown)
@@ -105,15 +85,8 @@ records-preserved g c =
       name = c.next.ensures.name ∙ c.records.invariant.name;
       progress = λ shown.
           let same : folder_of (site.disk c.records.site) c.records.records.name ≡ folder (log_name c.args.number) =
-          ap (λ (d : Disk). folder_of d c.records.records.name) (c.records.invariant.stays shown).same ∙ ap folder c.records.invariant.name in
+          ap (λ (d : Disk). folder_of d c.records.records.name) (c.records.invariant.quiet.stays shown).same ∙ ap folder c.records.invariant.name in
           record_taken c.args.last (folder (log_name c.args.number)) c.batches_join.ensures.join c.records.records c.next.new.self c.in-Record.payload _ _ _ _
           (record_of c.in_ok-payload.field-0 c.in-Record.payload (folder_of (site.disk c.records.site) c.records.records.name) (folder (log_name c.args.number)) c.records.records c.next.new.self c.in-Record.is same (c.in_ok-payload.ensures.answers shown)) t (c.records.invariant.progress shown);
-      stays = λ shown. keeps_then site.disk site.may_be site.certain c.args.site.now c.records.site c.next.new.site (c.records.invariant.stays shown) (c.next.ensures.stays shown);
-      told = λ shown. c.next.ensures.told shown ∙ c.records.invariant.told shown;
-      time = λ shown.
-          elapses_then site.disk site.may_be site.certain site.told site.clock site.left_since c.args.site.now c.records.site c.next.new.site (c.records.invariant.stays shown) (c.records.invariant.told shown)
-          (c.records.invariant.time shown) (c.next.ensures.time shown);
-      later = omega (arith, c.next.ensures.later, c.records.invariant.later);
-      tell_faults = c.next.ensures.tell_faults ∙ c.records.invariant.tell_faults;
-      changes = c.next.ensures.changes ∙ c.records.invariant.changes;
+      quiet = reads_on site c.args.site.now c.records.site c.next.new.site c.records.invariant.quiet c.next.ensures.quiet;
     }

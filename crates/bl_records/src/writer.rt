@@ -1,0 +1,175 @@
+//! Writing a file record by record.
+
+ghost use Rattle.std.specs.Prelude.{◌≡◌, ◌≤◌, ℕ, List, [], true, false, IsSome, IfOk, OnOk, OnErr, IsErrOf, string_bytes, vec_capacity};
+ghost use Rattle.bl_site.specs.Disk.{MayLeave};
+ghost use Rattle.bl_site.specs.Calls.{Creates, Appends, AppendsAny, Syncs, Frays, DoneOrNot, MayDuring, InDoubt, FollowsFile, KeepsDisk, StandsStill, Elapses};
+ghost use Rattle.bl_site.specs.Causes.{one_more};
+ghost use Rattle.bl_site.specs.Quiet.{TellsNothing, HasCauses};
+ghost use Rattle.bl_log.specs.Layout.{layout};
+ghost use Rattle.bl_records.specs.WrittenFile.{new_file, behind};
+ghost use Rattle.bl_records.specs.Held.{HoldsRecords, HoldsOneMore, HoldsAllSynced};
+
+use crate::error::RecordErr;
+use bl_log::LogWriter;
+use bl_site::Site;
+use std::alloc::Global;
+use std::marker::Model;
+
+// A buffer of more bytes is given back once its record is written.
+const KEPT: usize = 1_048_576;
+
+/// Writes the records of one file of a folder, one after another. It holds the file's name, and between two calls a buffer of at most
+/// 1 MiB. A contract sees the name, the place in its block at which the next record stands, and whether a call of it has failed.
+#[derive(Drop)]
+pub struct RecordWriter {
+    name: String,
+    writer: LogWriter,
+    buffer: Vec<u8>,
+    failed: bool,
+}
+
+impl Model for RecordWriter {
+    ghost use Rattle.std.specs.Prelude.{◌≤◌, string_bytes, vec_capacity};
+    ghost use Rattle.bl_records.specs.WrittenFile.{WrittenFile};
+
+    ghost Value = { WrittenFile };
+
+    ghost view = { λ w. record { name = string_bytes w.name; place = w.writer; failed = w.failed } };
+
+    ghost invariant = { λ w. vec_capacity w.buffer ≤ 1048576 };
+}
+
+// The memory of a large record is given back.
+fn release(buffer: &mut Vec<u8>)
+    ensures { vec_capacity buffer.new ≤ 1048576 }
+{
+    if buffer.capacity() > KEPT {
+        buffer.clear();
+        buffer.shrink_to(0);
+    }
+}
+
+impl RecordWriter {
+    /// Makes the file of this name. It is empty.
+    ///
+    /// Errors: `Disk`, after which the file may be there or not; `OutOfMemory`, after which the folder is as it was.
+    pub fn create<S: Site>(
+        alloc: Global,
+        site: &mut S,
+        name: String,
+    ) -> Result<RecordWriter, RecordErr>
+        ensures made { IfOk result (λ writer. writer ≡ new_file (string_bytes name)) }
+        ensures created { S.shows → OnOk result (Creates (string_bytes name) (S.disk site.old) (S.disk site.new)) }
+        ensures certain { S.shows → OnOk result (S.certain site.new) }
+        ensures failed { S.shows → IsErrOf result RecordErr.Disk → DoneOrNot (Creates (string_bytes name)) (S.disk site.old) (S.disk site.new) }
+        ensures keeps { S.shows → IsErrOf result RecordErr.OutOfMemory → KeepsDisk S.disk S.may_be S.certain site.old site.new }
+
+        // It holds no record.
+        ensures holds { S.shows → OnOk result (HoldsRecords (S.disk site.new) (new_file (string_bytes name)) [] 0) }
+
+        // What a cut during it, or after it, may leave.
+        ensures doubt { S.shows → InDoubt (Creates (string_bytes name)) (S.may_be site.old) (S.may_be site.new) }
+        ensures time { S.shows → Elapses (S.clock site.old) (S.clock site.new) (S.left_since site.old) (S.left_since site.new)
+            (MayLeave (MayDuring (Creates (string_bytes name)) (S.may_be site.old)) (S.told site.old)) }
+        ensures still { S.shows → IsErrOf result RecordErr.OutOfMemory → StandsStill S.clock S.left_since site.old site.new }
+
+        ensures tells_nothing { TellsNothing S.Site site.old site.new }
+        ensures causes { HasCauses S.Site RecordErr.Disk RecordErr.OutOfMemory result site.old site.new }
+        ensures changes { S.changes site.new ≡ one_more (S.changes site.old) }
+    {
+        site.create(name.as_str())?;
+        Ok(RecordWriter {
+            name,
+            writer: LogWriter::start(),
+            buffer: Vec::new(alloc),
+            failed: false,
+        })
+    }
+
+    /// Appends a record. The file is in the folder, and no call of it has failed.
+    ///
+    /// Errors: `Disk`, after which some bytes may follow in the file, at most as many as the record has; `OutOfMemory`, after which
+    /// none do. After `OutOfMemory` before the folder was asked the writer is as it was.
+    pub fn append<S: Site>(&mut self, site: &mut S, payload: &[u8]) -> Result<(), RecordErr>
+        requires usable { self.old.failed ≡ false }
+        requires there { S.shows → IsSome (S.disk site.old self.old.name) }
+        ensures appended { S.shows → OnOk result (Appends self.old.name (layout self.old.place payload.now) (layout self.old.place payload.now) (S.disk site.old) (S.disk site.new)) }
+        ensures moved { OnOk result (self.new ≡ behind self.old (layout self.old.place payload.now)) }
+        ensures torn { S.shows → IsErrOf result RecordErr.Disk → AppendsAny self.old.name (layout self.old.place payload.now) (S.disk site.old) (S.disk site.new) }
+        ensures keeps { S.shows → IsErrOf result RecordErr.OutOfMemory → KeepsDisk S.disk S.may_be S.certain site.old site.new }
+
+        // It holds one record more, also where the folder failed: then only some first bytes of it may read.
+        ensures holds { S.shows → (payloads : List (List ℕ)) (synced : ℕ) → HoldsRecords (S.disk site.old) self.old payloads synced
+            → HoldsOneMore result (S.disk site.new) self.new payloads payload.now synced }
+
+        // It has failed exactly after `Disk`, and after `OutOfMemory` once the folder was asked; else it is as it was.
+        ensures disk_fails { IsErrOf result RecordErr.Disk → self.new.failed ≡ true }
+        ensures asked_fails { self.new.failed ≡ true → S.changes site.new ≡ one_more (S.changes site.old) }
+        ensures stays { OnErr result (self.new.failed ≡ false → (self.new ≡ self.old) × (site.new ≡ site.old)) }
+        ensures asked { OnOk result (S.changes site.new ≡ one_more (S.changes site.old)) }
+        ensures name { self.new.name ≡ self.old.name }
+
+        // What a cut during it, or after it, may leave.
+        ensures certain { S.shows → S.certain site.old → S.certain site.new }
+        ensures doubt { S.shows → FollowsFile self.old.name (S.disk site.old) (S.disk site.new) (S.may_be site.old) (S.may_be site.new) }
+        ensures time { S.shows → Elapses (S.clock site.old) (S.clock site.new) (S.left_since site.old) (S.left_since site.new)
+            (MayLeave (S.may_be site.new) (S.told site.new)) }
+        ensures still { S.shows → IsErrOf result RecordErr.OutOfMemory → StandsStill S.clock S.left_since site.old site.new }
+
+        ensures tells_nothing { TellsNothing S.Site site.old site.new }
+        ensures causes { HasCauses S.Site RecordErr.Disk RecordErr.OutOfMemory result site.old site.new }
+    {
+        let framed = self.writer.frame_into(&mut self.buffer, payload);
+        if framed.is_err() {
+            release(&mut self.buffer);
+            return Err(RecordErr::OutOfMemory);
+        }
+        let appended = site.append(self.name.as_str(), self.buffer.as_slice());
+        release(&mut self.buffer);
+        self.failed = appended.is_err();
+        appended?;
+        Ok(())
+    }
+
+    /// Syncs the file: every cut from now on keeps all that was appended. The file is in the folder, and no call of it has failed. It
+    /// takes no memory of its own.
+    ///
+    /// Errors: `Disk`, after which the bytes since the last sync may read as any others, at most as many, and a cut may leave what
+    /// it might have left before; `OutOfMemory`, after which the folder is as it was. After both the writer has failed.
+    pub fn sync<S: Site>(&mut self, site: &mut S) -> Result<(), RecordErr>
+        requires usable { self.old.failed ≡ false }
+        requires there { S.shows → IsSome (S.disk site.old self.old.name) }
+        ensures synced { S.shows → OnOk result (Syncs self.old.name (S.disk site.old) (S.disk site.new)) }
+        ensures frayed { S.shows → IsErrOf result RecordErr.Disk → Frays self.old.name (S.disk site.old) (S.disk site.new) }
+        ensures keeps { S.shows → IsErrOf result RecordErr.OutOfMemory → KeepsDisk S.disk S.may_be S.certain site.old site.new }
+        ensures stays { OnOk result (self.new ≡ self.old) }
+        ensures fails { OnErr result (self.new ≡ record self.old { failed = true }) }
+
+        // All its records are on the disk.
+        ensures holds { S.shows → (payloads : List (List ℕ)) (synced : ℕ) → HoldsRecords (S.disk site.old) self.old payloads synced
+            → HoldsAllSynced result (S.disk site.new) self.new payloads synced }
+
+        // What a cut during it, or after it, may leave.
+        ensures certain { S.shows → S.certain site.old → S.certain site.new }
+        ensures doubt { S.shows → FollowsFile self.old.name (S.disk site.old) (S.disk site.new) (S.may_be site.old) (S.may_be site.new) }
+        ensures time { S.shows → Elapses (S.clock site.old) (S.clock site.new) (S.left_since site.old) (S.left_since site.new)
+            (MayLeave (S.may_be site.new) (S.told site.new)) }
+        ensures still { S.shows → IsErrOf result RecordErr.OutOfMemory → StandsStill S.clock S.left_since site.old site.new }
+
+        ensures tells_nothing { TellsNothing S.Site site.old site.new }
+        ensures causes { HasCauses S.Site RecordErr.Disk RecordErr.OutOfMemory result site.old site.new }
+        ensures changes { S.changes site.new ≡ one_more (S.changes site.old) }
+    {
+        let synced = site.sync(self.name.as_str());
+        self.failed = synced.is_err();
+        synced?;
+        Ok(())
+    }
+
+    /// Whether a call of it has failed: it answered `Disk`, or `OutOfMemory` once the folder was asked. No other call may follow.
+    pub fn failed(&self) -> bool
+        ensures { result ≡ self.now.failed }
+    {
+        self.failed
+    }
+}
