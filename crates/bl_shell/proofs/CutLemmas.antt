@@ -9,6 +9,8 @@ use Rattle.bl_entry.specs.Batches.{Batch}
 use Rattle.bl_script.specs.declared.command.Parsed.{Parsed}
 use Rattle.bl_script.specs.declared.command.Parsed.TheVariants.{Nothing}
 use Rattle.bl_records.specs.Chance.{NoChanceMatch}
+use Rattle.bl_records.proofs.HeldLemmas.{within_of}
+use Rattle.bl_wal.specs.Held.{record_of}
 use Rattle.bl_store.specs.Cuts.{LeavesFirst, AreLeftWhole}
 use Rattle.bl_store.specs.Folders.{Stands, LogStands}
 use Rattle.bl_store.specs.Laws.{CutsStand, BatchesMakeMap}
@@ -68,7 +70,7 @@ cut_at disk mid bytes reply told told_mid c same tells t = record {
 
 -- not more batches than there are
 pub least_within : (store : Stored) (batches : List Batch) (least : ℕ) (disk : Disk) → IsServable store batches least disk → least ≤ length batches
-least_within store batches least disk s = omega (arith, s.at_least, s.carries.on.holds.within, ap length s.all, length-append s.older s.own)
+least_within store batches least disk s = omega (arith, s.at_least, within_of record_of s.own s.synced s.carries.on.holds.within, ap length s.all, length-append s.older s.own)
 
 abbrev none_told : (reply told told_now : List ℕ) → told_now ≡ told → TellsFront reply told told_now
 none_told reply told told_now same = record { front = []; rest = reply; whole = refl; told_is = same ∙ sym (append-nil told) }

@@ -1,8 +1,7 @@
 -- The script's end.
 use Rattle.std.proofs.Common.{◌≡◌, ℕ, ◌+◌, ◌<◌, Bool, true, false, List, [], ◌∷◌, ◌++◌, length, map, Option, refl, sym, ◌∙◌, ap, subst, arith, append-nil, length-append, inl, inr}
-use Rattle.std.proofs.Math.Seq.{take-length}
 use Rattle.std.proofs.lemmas.Bool.{cases_lt}
-use Rattle.std.proofs.lemmas.List.{nil_from_length}
+use Rattle.std.proofs.lemmas.List.{nil_from_length, take_all, length-map}
 use Rattle.bl_site.specs.Calls.{LeavesOnly}
 use Rattle.bl_site.specs.Disk.{File, Folder, Disk, Cut, folder_of}
 use Rattle.bl_site.proofs.Moments.{joins, widened, cut_of_only}
@@ -13,7 +12,8 @@ use Rattle.bl_script.specs.Lines.{lines_in, last_line, without_return}
 use Rattle.bl_script.specs.Parsing.{parsed}
 use Rattle.bl_script.specs.declared.command.Parsed.{Parsed}
 use Rattle.bl_wal.specs.LogFile.{LogFile, log_name}
-use Rattle.bl_wal.specs.Held.{log_of}
+use Rattle.bl_log.specs.Layout.{written}
+use Rattle.bl_wal.specs.Held.{log_of, record_of}
 use Rattle.bl_store.specs.Cuts.{LeavesFirst}
 use Rattle.bl_store.specs.Folders.{Stands}
 use Rattle.bl_store.specs.Laws.{StoresStand, BatchesMakeMap, OlderLogsAreSynced, SyncedStoresAreLeft}
@@ -184,7 +184,7 @@ all_synced log older own last disk whole on number is = elim (cases_lt log.numbe
     | inl below ↦ on.below_synced number is below
     | inr ge ↦
         let h = on.holds in
-        let front : h.file.front ≡ log_of own = h.front ∙ ap log_of (take-length own) in
+        let front : h.file.front ≡ log_of own = h.front ∙ ap (written 0) (take_all (length own) (map record_of own) (omega (arith, length-map own record_of))) in
         let none : h.file.handed ≡ [] = nil_from_length h.file.handed (omega (arith, ap length h.all, length-append h.file.front h.file.handed, ap length front)) in
         let e : log.number ≡ number = omega (arith, le, ge) in
         let P : ℕ → Type 0 = λ n. IsSynced (disk (log_name n)) in
