@@ -45,7 +45,10 @@ fn writes_stand_before_a_limit(rt: HostRuntime) -> Result<(), Fail> {
     site.put_file("999999999999998.log", b"")?;
     let status = serve(rt.alloc(), b"put a =1\nreopen\n", 64, &[], &mut site)?;
     assert_eq!(rt; status.number(), 8);
-    assert_eq!(rt; site.told(), b"ok\nerror full 1000000000000000\n".as_slice());
+    assert_eq!(rt;
+        site.told(),
+        b"ok\nerror full 1000000000000000\n".as_slice()
+    );
     assert_eq!(rt; size_of(&site, "999999999999999.log"), Some(24));
     Ok(())
 }
