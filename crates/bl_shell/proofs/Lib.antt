@@ -5,6 +5,8 @@ mod CrashLemmas
 mod CutLemmas
 mod EndLemmas
 mod HistoryLemmas
+mod LeaveLemmas
+mod LawLemmas
 mod LimitLemmas
 mod LineLemmas
 mod MomentLemmas

@@ -18,8 +18,8 @@ use Rattle.bl_script.specs.declared.command.Command.TheVariants as command
 use Rattle.bl_script.specs.declared.command.Parsed.{Parsed}
 use Rattle.bl_script.specs.declared.command.Parsed.TheVariants.{Go}
 use Rattle.bl_store.specs.Stored.{Stored, Opens}
-use Rattle.bl_shell.specs.Machine.{Line, Write, writes_of, written_by, operations_in, numbered, reopens, reopens_in, Began, Fits}
-use Rattle.bl_shell.specs.Carried.{Stays, IsWrite, HasRoom, operations_of}
+use Rattle.bl_shell.specs.Machine.{Line, Write, writes_of, written_by, operations_in, numbered, reopens, reopens_in, Start, Fits}
+use Rattle.bl_shell.specs.Carried.{IsServable, IsWrite, HasRoom, operations_of}
 use Rattle.bl_shell.proofs.StayLemmas.{next_number}
 
 bind_ok : {A B E : Type 0} (r : Result A E) (f : A → Result B E) (y : B) → (r >>= f) ≡ Ok y → (x : A) × (r ≡ Ok x) × (f x ≡ Ok y)
@@ -132,7 +132,7 @@ ends [] before last bs e =
 ends (r ∷ rs) before last bs e = by_batch rs before last bs (λ s m cs. ends rs s m cs) r (read_batch r) refl e
 
 -- of a store that stands
-pub last_fits : (store : Stored) (batches : List Batch) (least : ℕ) (disk : Disk) → Stays store batches least disk → store.last < 2 ^ 56
+pub last_fits : (store : Stored) (batches : List Batch) (least : ℕ) (disk : Disk) → IsServable store batches least disk → store.last < 2 ^ 56
 last_fits store batches least disk s =
     let on = s.carries.on in
     let below = ends _ 0 on.between s.older on.below in
@@ -141,7 +141,7 @@ last_fits store batches least disk s =
     own.fits between
 
 -- and of the lines that it has obeyed
-pub lines_fit : (began : Began) (history : List Line) (store : Stored) (batches : List Batch) (least : ℕ) (disk : Disk) → Stays store batches least disk
+pub lines_fit : (began : Start) (history : List Line) (store : Stored) (batches : List Batch) (least : ℕ) (disk : Disk) → IsServable store batches least disk
     → store.last ≡ began.last + operations_in (written_by history) → store.log.number ≡ began.number + reopens_in history → Fits began history
 lines_fit began history store batches least disk s last number = record {
   sequences = omega (arith, last, last_fits store batches least disk s);
@@ -157,7 +157,7 @@ unfolding operations_in
 one_write operations = omega arith
 
 -- an order that writes nothing and opens nothing
-pub quiet_room : (order : Parsed) (store : Stored) (batches : List Batch) (least : ℕ) (disk : Disk) → writes_of order ≡ [] → reopens order ≡ 0 → Stays store batches least disk → HasRoom order store
+pub quiet_room : (order : Parsed) (store : Stored) (batches : List Batch) (least : ℕ) (disk : Disk) → writes_of order ≡ [] → reopens order ≡ 0 → IsServable store batches least disk → HasRoom order store
 quiet_room order store batches least disk none opens s = record {
   sequences = omega (arith, last_fits store batches least disk s, ap operations_in none, no_writes);
   number = omega (arith, s.carries.on.is_number.1, opens);
@@ -165,14 +165,14 @@ quiet_room order store batches least disk none opens s = record {
 
 -- a write that was written
 pub written_room : (order : Parsed) (operations : Write) (store : Stored) (batches : List Batch) (least : ℕ) (disk : Disk) → IsWrite order operations → store.last + length operations < 2 ^ 56
-    → Stays store batches least disk → HasRoom order store
+    → IsServable store batches least disk → HasRoom order store
 written_room order operations store batches least disk w fits s = record {
   sequences = omega (arith, fits, ap operations_in w.writes, one_write operations);
   number = omega (arith, s.carries.on.is_number.1, w.opens);
 }
 
 -- a store that was opened anew
-pub reopened_room : (store next : Stored) (batches : List Batch) (least : ℕ) (disk mid : Disk) → Opens (folder_of disk) next mid → Stays store batches least disk → HasRoom (Go command.Reopen) store
+pub reopened_room : (store next : Stored) (batches : List Batch) (least : ℕ) (disk mid : Disk) → Opens (folder_of disk) next mid → IsServable store batches least disk → HasRoom (Go command.Reopen) store
 reopened_room store next batches least disk mid o s = record {
   sequences = omega (arith, last_fits store batches least disk s, no_writes);
   number = omega (arith, o.carries.on.is_number.1, next_number store batches least disk next.log.number s o.next);

@@ -12,7 +12,7 @@ ghost use Rattle.bl_store.specs.Listing.{AreLogsAbove};
 ghost use Rattle.bl_store.specs.Replaying.{HasReplayed, HasAll};
 ghost use Rattle.bl_store.specs.Stored.{map_in, IsSynced, KeepsOthers, MakesNoFile};
 ghost use Rattle.bl_store.specs.Cuts.{LeavesFound, AreReadAsWritten, FindsNoNewFile};
-ghost use Rattle.bl_store.specs.Causes.{IsReading, IsRefusal, IsSyncing};
+ghost use Rattle.bl_store.specs.Causes.{IsReading, IsUntouched, IsSyncing};
 
 use crate::error::StoreErr;
 use crate::memory::put_entries;
@@ -171,7 +171,7 @@ pub(crate) fn read_logs<S: Site>(alloc: Global, site: &mut S) -> Result<Memory, 
     ensures replayed { S.shows → IfOk result (λ m. HasAll (folder_of (S.disk site.old)) (map_in m.map.entries) m.last m.greatest) }
     ensures bound { IfOk result (λ m. m.greatest < 10 ^ 15) }
     ensures corrupt { S.shows → (name : Name) (place : ℕ) → result ≡ Err (StoreErr.Corrupt name place) → IsDamaged (folder_of (S.disk site.old)) name place }
-    ensures refused { S.shows → IfErr result (λ e. IsRefusal e → folder_of (S.disk site.new) ≡ folder_of (S.disk site.old)) }
+    ensures refused { S.shows → IfErr result (λ e. IsUntouched e → folder_of (S.disk site.new) ≡ folder_of (S.disk site.old)) }
     ensures certain { S.shows → S.certain site.old → S.certain site.new }
     ensures before { S.shows → LeavesOnly S.clock S.left_since site.old site.new (LeavesFound (S.may_be site.old) (S.told site.old)) }
     ensures cuts { S.shows → AreReadAsWritten (S.disk site.old) → LeavesOnly S.clock S.left_since site.old site.new (MayLeave (S.may_be site.old) (S.told site.old)) }

@@ -142,3 +142,9 @@ returns-in-Sync-clause-room g c = λ shown.
 
 pub returns-in-Reopen-clause-room : goal.returns-in-Reopen-clause-room
 returns-in-Reopen-clause-room g c = λ shown. rw c.in-Reopen.is (c.do_reopen.ensures.room shown)
+
+pub returns-in-Scan-clause-obeyed : goal.returns-in-Scan-clause-obeyed
+returns-in-Scan-clause-obeyed g c = λ shown.
+    rw c.in-Scan.is (λ is.
+    told_only (Go (Scan c.in-Scan.from c.in-Scan.to)) c.args.store.now _ _ (reply (Scan c.in-Scan.from c.in-Scan.to) c.args.store.now.now) _ _
+    (record { writes = refl; tells = refl; opens = refl; no_sync = refl }) (c.tell_pairs.ensures.stays shown) refl)

@@ -28,3 +28,9 @@ returns-in_err-tell-clause-others g c = λ shown. others_same _ _ (c.tell.ensure
 
 pub returns-clause-others : goal.returns-clause-others
 returns-clause-others g c = λ shown. others_same _ _ (c.tell.ensures.stays shown).same
+
+pub returns-in_err-tell-clause-obeyed : goal.returns-in_err-tell-clause-obeyed
+returns-in_err-tell-clause-obeyed g c = λ shown order told. told_only order c.args.store.now _ _ c.args.reply.now _ _ told (c.tell.ensures.stays shown).same refl
+
+pub returns-clause-obeyed : goal.returns-clause-obeyed
+returns-clause-obeyed g c = λ shown order told. told_only order c.args.store.now _ _ c.args.reply.now _ _ told (c.tell.ensures.stays shown).same refl

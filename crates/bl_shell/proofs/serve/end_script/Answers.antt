@@ -5,7 +5,7 @@ use Rattle.bl_shell.specs.Machine.{orders}
 use Rattle.bl_shell.specs.Synced.{CutOf}
 use Rattle.bl_shell.proofs.CarriedLemmas.{cuts_so_far}
 use Rattle.bl_shell.proofs.OnOk.{on_ok2, if_err}
-use Rattle.bl_shell.proofs.EndLemmas.{ends_between, same_orders, finished_so, begun_so, stops_so}
+use Rattle.bl_shell.proofs.EndLemmas.{ends_between, same_orders, finished_so, begun_so, stops_so, falters_so}
 use Rattle.bl_shell.proofs.serve.end_script.Goals as goal
 
 pub returns-then-is_empty-clause-ok : goal.returns-then-is_empty-clause-ok
@@ -29,7 +29,7 @@ returns-clause-front g c = λ shown. if_err c.end_line.result _ _ (λ e front si
 
 pub returns-clause-full : goal.returns-clause-full
 returns-clause-full g c = λ shown limit is began folder told script start begins carried.
-    stops_so folder (script ++ 10 ∷ []) script told _ limit _ (same_orders began folder told _ script _ c.args.line.now _ _ (some g c) carried) (c.end_line.ensures.full shown limit is began folder told script [] start begins carried)
+    stops_so folder _ (script ++ 10 ∷ []) script told _ limit _ (same_orders began folder told _ script _ c.args.line.now _ _ (some g c) carried) (c.end_line.ensures.full shown limit is began folder told script [] start begins carried)
 
 pub returns-then-is_empty-clause-cuts : goal.returns-then-is_empty-clause-cuts
 returns-then-is_empty-clause-cuts g c = λ shown began folder told script start carried.
@@ -40,3 +40,7 @@ pub returns-clause-cuts : goal.returns-clause-cuts
 returns-clause-cuts g c = λ shown began folder told script start carried.
     let P : List Parsed → Type 0 = λ os. LeavesOnly g.S.Site.clock g.S.Site.left_since start c.end_line.new.site (CutOf began os told) in
     subst P (same_orders began folder told _ script _ c.args.line.now _ _ (some g c) carried) (c.end_line.ensures.cuts shown began folder told script [] start carried)
+
+pub returns-clause-faltered : goal.returns-clause-faltered
+returns-clause-faltered g c = λ shown is began folder told script start begins carried.
+    falters_so folder _ (script ++ 10 ∷ []) script told _ (same_orders began folder told _ script _ c.args.line.now _ _ (some g c) carried) (c.end_line.ensures.faltered shown is began folder told script [] start begins carried)

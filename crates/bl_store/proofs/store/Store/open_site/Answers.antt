@@ -97,7 +97,7 @@ returns-in_err-wal-clause-others g c = λ shown.
     let is : IsNumber c.in_ok-number.number = (omega (arith, next.0), next.1) in
     let mid = disk c.read_logs.new.site in
     let new = disk c.create.new.site in
-    others_then (disk c.args.site.now) mid new (c.read_logs.ensures.others shown) (log_alone c.in_ok-number.number mid new is (elim c.in_err-wal.ensures.causes [
+    others_then (disk c.args.site.now) mid new (c.read_logs.ensures.others shown) (log_alone c.in_ok-number.number mid new is (elim c.in_err-wal.ensures.errors [
       | inl failed ↦ create_alone (log_name c.in_ok-number.number) mid new (c.in_err-wal.ensures.failed shown (ap Err failed))
       | inr memory ↦ all_same (log_name c.in_ok-number.number) mid new (c.in_err-wal.ensures.memory shown (ap Err memory))
     ]))
@@ -157,7 +157,7 @@ returns-in_err-wal-clause-made g c = λ shown next.
     let found = c.in_ok-memory.ensures in
     let number = c.in_ok-number.number in
     let none = λ (same : new ≡ mid). absurd (no_file_no_next (site.disk c.args.site.now) new (then_makes_no_file (site.disk c.args.site.now) mid new (c.read_logs.ensures.no_file shown) (same_makes_no_file mid new same)) next) in
-    elim c.in_err-wal.ensures.causes [
+    elim c.in_err-wal.ensures.errors [
       | inl failed ↦ elim (c.in_err-wal.ensures.failed shown (ap Err failed)) [
         | inl same ↦ none same
         | inr made ↦
