@@ -21,4 +21,6 @@ pub use input::HostSource;
 pub use site::HostSite;
 
 #[cfg(test)]
+mod recorder;
+#[cfg(test)]
 mod tests;
