@@ -1,6 +1,7 @@
 //! Logs whose reading ends before their bytes do.
-ghost use Rattle.std.specs.Prelude.{◌≡◌, ◌≢◌, MatchOption, IfSome, IfOk};
-ghost use Rattle.bl_log.specs.declared.cause.EndCause.{EndCause};
+ghost use Rattle.std.specs.Prelude.{◌≡◌, ◌≢◌, IfOk, MatchOption};
+ghost use Rattle.bl_site.specs.Disk.{folder_of};
+ghost use Rattle.bl_main.specs.Ends.{EndsAt};
 
 use bl_log::EndCause;
 use bl_names::{FileName, parse_name};
@@ -87,7 +88,9 @@ fn end_of<S: Site>(
     alloc: Global,
     site: &mut S,
     name: &str,
-) -> Result<Option<(u64, EndCause)>, LookErr> {
+) -> Result<Option<(u64, EndCause)>, LookErr>
+    ensures { S.shows → IfOk result (λ end. MatchOption end (folder_of (S.disk site.old) name.now ≡ None) (λ it. EndsAt (folder_of (S.disk site.old) name.now) it.0 it.1)) }
+{
     let mut reader = RecordReader::open(alloc, String::from_str(alloc, name)?)?;
     'records: for _record in 0..u64::MAX {
         match reader.next(site)? {
