@@ -8,8 +8,8 @@ use std::fs::{self, OpenFile, OpenOptions, ReadDir};
 use std::io::{self, ErrorKind, Seek, SeekFrom, Write};
 use std::rt::Files;
 
-// The number of the limit on a file's length, which `getrlimit` is asked.
-const FILE_LIMIT: i32 = 1;
+// Where Linux tells the limits of this process.
+const LIMITS: &str = "/proc/self/limits";
 
 #[derive(Drop)]
 pub(crate) struct Host<R: Files + AllocGlobal + Clone + Drop> {
@@ -20,10 +20,11 @@ pub(crate) struct Host<R: Files + AllocGlobal + Clone + Drop> {
 
 impl<R: Files + AllocGlobal + Clone + Drop> Host<R> {
     pub(crate) fn new(rt: R) -> Host<R> {
-        Host {
-            rt,
-            limit: file_limit(),
-        }
+        let limit = match fs::read_to_string(&rt, LIMITS) {
+            Ok(limits) => file_limit(limits.as_str()).unwrap_or(u64::MAX),
+            Err(_) => u64::MAX,
+        };
+        Host { rt, limit }
     }
 
     // How many of so many bytes may follow in the file.
@@ -36,16 +37,13 @@ impl<R: Files + AllocGlobal + Clone + Drop> Host<R> {
     }
 }
 
-// The limit that this process has been given, or the greatest number where there is none.
-fn file_limit() -> u64 {
-    let mut limit = libc::types::rlimit {
-        rlim_cur: u64::MAX,
-        rlim_max: u64::MAX,
-    };
-    if libc::getrlimit(FILE_LIMIT, &mut limit) != 0 {
-        return u64::MAX;
-    }
-    limit.rlim_cur
+// How long a file may get by these limits, as the system writes them; `None` where that is unlimited.
+fn file_limit(limits: &str) -> Option<u64> {
+    let line = limits
+        .lines()
+        .find(|line| line.starts_with("Max file size"))?;
+    let soft = line.split_whitespace().nth(3)?;
+    soft.parse::<u64>().ok()
 }
 
 impl<R: Files + AllocGlobal + Clone + Drop> System for Host<R> {
