@@ -12,9 +12,9 @@ use Rattle.std.proofs.lemmas.Bool.{false≢true, eqb-true, eq-eqb}
 use Rattle.std.proofs.lemmas.List.Folds.{list_any-append}
 use Rattle.bl_code.specs.Order.{bytes_cmp, same_bytes}
 use Rattle.bl_entry.specs.declared.key.Entry.{Entry}
-use Rattle.bl_entry.specs.Entries.{IsAscending, stands_before}
+use Rattle.bl_entry.specs.Entries.{IsAscending, last_of, stands_before}
 use Rattle.bl_entry.specs.Keys.{Key, key_cmp, key_number}
-use Rattle.bl_entry.specs.Kept.{NewestStandsFirst, alike, follows_alike, last_of, stripe}
+use Rattle.bl_entry.specs.Kept.{NewestStandsFirst, alike, follows_alike, stripe}
 use Rattle.bl_entry.proofs.KeptLemmas.{and_second, seq_falls, stripe_le}
 use Rattle.bl_entry.proofs.LatestLemmas.{and_first}
 use Rattle.bl_entry.proofs.OrderLemmas.{AreBehind, eq_of, key_total}

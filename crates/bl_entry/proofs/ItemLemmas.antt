@@ -4,6 +4,7 @@ use Rattle.std.specs.Prelude.{map, Contains, is_some, option_and_then, Result, O
 use Rattle.std.specs.List.{AllByRecursion}
 use Rattle.std.specs.Option.{option_map}
 use Rattle.std.specs.Result.{result_ok}
+use Rattle.bl_code.proofs.Basics.{all_from}
 use Rattle.bl_entry.specs.Items.{each_of}
 
 pub some_is : {A : Type 0} {x y : A} → Some x ≡ Some y → x ≡ y
@@ -60,10 +61,6 @@ each_from f g (x ∷ xs) ys back e =
 
 -- ---- facts of each element
 
-pub all_to : {A : Type 0} (P Q : A → Type 0) (xs : List A) → ((x : A) → P x → Q x) → AllByRecursion P xs → AllByRecursion Q xs
-all_to P Q [] to h = tt
-all_to P Q (x ∷ xs) to h = (to x h.0, all_to P Q xs to h.1)
-
 pub all_of_map : {A B : Type 0} (f : A → B) (P : B → Type 0) (xs : List A) → AllByRecursion (λ x. P (f x)) xs → AllByRecursion P (map f xs)
 all_of_map f P [] h = tt
 all_of_map f P (x ∷ xs) h = (h.0, all_of_map f P xs h.1)
@@ -75,7 +72,7 @@ behind_first x y xs (k, less, is) = (suc k, omega arith, is)
 pub all_contained : {A : Type 0} (P : A → Type 0) (xs : List A) → AllByRecursion P xs → AllByRecursion (λ x. Contains xs x × P x) xs
 all_contained P [] h = tt
 all_contained P (x ∷ xs) h =
-    (((zero, omega arith, refl), h.0), all_to (λ y. Contains xs y × P y) (λ y. Contains (x ∷ xs) y × P y) xs (λ y (c, p). (behind_first x y xs c, p)) (all_contained P xs h.1))
+    (((zero, omega arith, refl), h.0), all_from (λ y. Contains xs y × P y) (λ y. Contains (x ∷ xs) y × P y) xs (λ y (c, p). (behind_first x y xs c, p)) (all_contained P xs h.1))
 
 pub contains_map : {A B : Type 0} (f : A → B) (xs : List A) (x : A) → Contains xs x → Contains (map f xs) (f x)
 contains_map f [] x (k, less, is) = absurd (omega arith)

@@ -11,12 +11,13 @@ use Rattle.std.specs.declared.cmp.Ordering.TheVariants.{Less, Equal}
 use Rattle.std.proofs.lemmas.Bool.{false≢true, eqb-true, eq-eqb, lt-ltb, leb-true, leb-false}
 use Rattle.std.proofs.lemmas.List.Sums.{sum_by-cons}
 use Rattle.bl_code.specs.Order.{bytes_cmp, same_bytes}
+use Rattle.bl_code.proofs.Basics.{all_from}
 use Rattle.bl_entry.specs.declared.key.Entry.{Entry}
 use Rattle.bl_entry.specs.Entries.{AreInOrder, IsAscending, is_deletion, stands_before}
 use Rattle.bl_entry.specs.Keys.{key_cmp, key_number, kind_number}
 use Rattle.bl_entry.specs.Kept.{KeptAtTheBottomTellTheSame, KeptTellTheSame, MayBeAsked, alike, is_newest, is_oldest_deletion, kept, stripe}
 use Rattle.bl_entry.specs.Latest.{is_seen, latest, revision_of}
-use Rattle.bl_entry.proofs.ListLemmas.{all_from, any_there, by_test, find_kept, find_none_kept, find_passes, find_there, none_passes}
+use Rattle.bl_entry.proofs.ListLemmas.{any_there, by_test, find_kept, find_none_kept, find_passes, find_there, none_passes}
 use Rattle.bl_entry.proofs.LatestLemmas.{AreNoLater, IsNoLater, all_of, and_first, found_first, found_later, latest_is_the_value, newest_is, same_of}
 use Rattle.bl_entry.proofs.OrderLemmas.{AreBehind, ascending_in_order, eq_of, kind_small, nat_cmp_lt, order_filtered}
 

@@ -9,12 +9,13 @@ use Rattle.std.specs.Ordering.{nat_cmp, is_lt, ordering_then}
 use Rattle.std.specs.declared.cmp.Ordering.TheVariants.{Equal}
 use Rattle.std.proofs.lemmas.Bool.{false≢true}
 use Rattle.bl_code.specs.Order.{bytes_cmp, same_bytes}
+use Rattle.bl_code.proofs.Basics.{all_get}
 use Rattle.bl_entry.specs.declared.key.Entry.{Entry}
 use Rattle.bl_entry.specs.Entries.{AreInOrder, stands_before}
 use Rattle.bl_entry.specs.Keys.{key_number, kind_number}
 use Rattle.bl_entry.specs.Latest.{LatestIsGreatest, LatestIsTheValue, is_seen, latest, revision_of}
 use Rattle.bl_entry.specs.Revisions.{later, newest, seen}
-use Rattle.bl_entry.proofs.ListLemmas.{all_at, by_test, find_holds, find_passes, find_there}
+use Rattle.bl_entry.proofs.ListLemmas.{by_test, find_holds, find_passes, find_there}
 use Rattle.bl_entry.proofs.OrderLemmas.{NoneBefore, eq_of, key_total, kind_small, nat_cmp_ge}
 
 pub and_first : (a b : Bool) → (a && b) ≡ true → a ≡ true
@@ -65,7 +66,7 @@ pub latest_is_greatest : LatestIsGreatest
 latest_is_greatest es key seq e up f =
     let all : AreNoLater key seq e es = all_of key seq es e up f in
     let P : Entry → Type 0 = λ y. is_seen key seq y ≡ true → IsNoLater e y in
-    let at = λ (other : Entry) (there : Contains es other). subst P there.2 (all_at P es there.0 other all there.1) in
+    let at = λ (other : Entry) (there : Contains es other). subst P there.2 (all_get P es there.0 other all there.1) in
     record {
       there = find_there (is_seen key seq) es e f;
       seen = find_passes (is_seen key seq) es e f;

@@ -22,11 +22,6 @@ key_total = search (comparing, rules)
 
 -- ---- what a comparison says
 
-pub less_of : (o : Ordering) → is_lt o ≡ true → o ≡ Less
-less_of Less h = refl
-less_of Equal h = absurd (false≢true h)
-less_of Greater h = absurd (false≢true h)
-
 pub eq_of : (o : Ordering) → is_eq o ≡ true → o ≡ Equal
 eq_of Less h = absurd (false≢true h)
 eq_of Equal h = refl

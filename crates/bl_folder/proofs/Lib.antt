@@ -1,10 +1,14 @@
-mod FieldRows
 mod Finding
 mod FrameLemmas
 mod FreshLemmas
 mod FrontLemmas
 mod LogLemmas
+mod MutatedRows
+mod NoBytes
 mod OneLemmas
 mod ReachLemmas
+mod RichRows
 mod Rows
 mod SettledLemmas
+mod SettledRows
+mod SyncedLemmas

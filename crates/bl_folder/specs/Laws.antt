@@ -10,15 +10,16 @@ use Rattle.bl_entry.specs.Revisions.{Map}
 use Rattle.bl_build.specs.Restoring.{Restored}
 use Rattle.bl_build.specs.Versions.{IsVersion}
 use Rattle.bl_records.specs.Chance.{NoChanceMatch}
-use Rattle.bl_folder.specs.Files.{file}
+use Rattle.bl_out.specs.Files.{file}
+use Rattle.bl_out.specs.References.{references, count_of}
+use Rattle.bl_out.specs.Tables.{table_entries}
 use Rattle.bl_folder.specs.Logs.{HaveBatches}
 use Rattle.bl_folder.specs.Live.{IsFresh, IsLive, IsQuietOnFresh}
-use Rattle.bl_folder.specs.References.{references, count_of}
-use Rattle.bl_folder.specs.Holding.{Holding, Holds, table_entries}
+use Rattle.bl_folder.specs.Holding.{Holding, Holds}
 use Rattle.bl_folder.specs.Stands.{Stands, StandsLive}
 use Rattle.bl_folder.specs.Fronts.{StandsFirst}
 use Rattle.bl_folder.specs.Needed.{FilesAlike, IsQuiet, KeepsNeeded, NeededAreThere, ReadsAlike}
-use Rattle.bl_folder.specs.Settled.{IsSettled}
+use Rattle.bl_folder.specs.Settled.{IsSettled, NeededAreSynced}
 
 -- A folder has one live part at most,
 abbrev pub LiveIsOne : Type 0
@@ -102,7 +103,7 @@ pub record KeepsLive (disk : Disk) (folder : Folder) : Type 0 where
   pub tables : AllByRecursion (λ t. file folder (Table t.number) ≡ file (folder_of disk) (Table t.number)) live.version.tables
   pub blobs : AllByRecursion (λ b. file folder (Blob b.number) ≡ file (folder_of disk) (Blob b.number)) live.version.blobs
 
--- Unless a torn fragment's checksum matches by chance, a power cut leaves of a settled disk a fresh folder, or one with a live part all of whose files are there as they were.
+-- Unless a torn fragment's checksum matches by chance, a power cut leaves of a settled disk a fresh folder, or one with a live part, perhaps an earlier one, whose tables and blob files are as they were. Of its logs it may take what is not synced.
 abbrev pub CutsOfSettled : Type 0
 CutsOfSettled = (disk : Disk) (told : List ℕ) (c : Cut) → IsSettled disk → IsCut disk told c → NoChanceMatch c.folder c.written
     → IsFresh c.folder ⊎ KeepsLive disk c.folder
@@ -111,3 +112,13 @@ CutsOfSettled = (disk : Disk) (told : List ℕ) (c : Cut) → IsSettled disk →
 abbrev pub FailedSyncsKeepSettled : Type 0
 FailedSyncsKeepSettled = (old new : Disk) (name : Name) → ((other : Name) (x : File) → old other ≡ Some x → IsRemnant x x.read)
     → IsSettled old → Frays name old new → NoChanceMatch (folder_of new) (written_of new) → IsSettled new
+
+-- A live disk whose needed files are synced is settled,
+abbrev pub SyncedAreSettled : Type 0
+SyncedAreSettled = (disk : Disk) (manifest : ℕ) (live : Restored) → IsLive (folder_of disk) manifest live → NeededAreSynced disk manifest live → IsSettled disk
+
+-- and a cut leaves it its live part and its map, whatever matches by chance.
+abbrev pub CutsOfSynced : Type 0
+CutsOfSynced = (disk : Disk) (told : List ℕ) (c : Cut) (manifest : ℕ) (live : Restored) (m : Map)
+    → IsLive (folder_of disk) manifest live → Stands (folder_of disk) m → NeededAreSynced disk manifest live → IsCut disk told c
+    → IsLive c.folder manifest live × Stands c.folder m

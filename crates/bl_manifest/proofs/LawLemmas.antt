@@ -1,15 +1,15 @@
 -- What manifests read as, and which bytes restore something.
-use Rattle.std.proofs.Common.{◌≡◌, ◌⊎◌, inl, inr, ℕ, ◌+◌, ◌%◌, ◌^◌, ◌≤◌, true, false, List, [], ◌∷◌, ◌++◌, length, map, take, Option, None, Some, Result, Ok, Err, refl, sym, ◌∙◌, ap, subst, arith, append_assoc, append-nil, length-append, length-take-le}
-use Rattle.std.proofs.lemmas.List.{take-append-le, take_all, length-map, nil_from_length}
+use Rattle.std.proofs.Common.{◌≡◌, ◌⊎◌, inl, inr, ℕ, ◌+◌, ◌%◌, ◌^◌, List, [], ◌∷◌, ◌++◌, length, map, Option, None, Some, Result, Ok, Err, refl, sym, ◌∙◌, ap, subst, append_assoc, append-nil, length-append}
+use Rattle.std.proofs.lemmas.List.{length-map, map-append}
 use Rattle.std.specs.Prelude.{option_and_then}
 use Rattle.std.specs.Option.{option_map}
 use Rattle.std.specs.Result.{result_ok}
-use Rattle.bl_site.specs.Disk.{Disk, File, Cut, IsCut, IsRemnant, IsLeft}
-use Rattle.bl_site.proofs.Images.{left_some, whole_remnant}
-use Rattle.bl_names.specs.Names.{manifest_name}
-use Rattle.bl_log.specs.Log.{records, placed_records, ending, IsLog}
-use Rattle.bl_log.specs.Layout.{written}
-use Rattle.bl_log.specs.Written.{OnlyWritten}
+use Rattle.bl_site.specs.Disk.{Disk, File, Cut, IsCut}
+use Rattle.bl_names.specs.declared.name.FileName.TheVariants.{Manifest}
+use Rattle.bl_log.specs.Log.{records, placed_records, ending}
+use Rattle.bl_records.specs.Held.{HoldsRecords}
+use Rattle.bl_records.specs.Laws.{CutFilesReadAsFronts, FilesAreRead, SyncedFilesAreLeft, CutAppendsReadAsFronts as AppendsReadAsFronts}
+use Rattle.bl_records.proofs.HeldLemmas.{within_of}
 use Rattle.bl_edit.specs.Reading.{read_edit, no_field}
 use Rattle.bl_edit.specs.Spelling.{edit_bytes}
 use Rattle.bl_edit.specs.declared.edit.Edit.{Edit}
@@ -19,85 +19,44 @@ use Rattle.bl_build.specs.declared.meta.Standing.{Standing}
 use Rattle.bl_build.specs.Listing.{Listing, nothing}
 use Rattle.bl_build.specs.Versions.{apply, applied, version}
 use Rattle.bl_build.specs.Restoring.{Restored, edits_of, last_given, standing_of, restored_by, restored}
-use Rattle.bl_manifest.specs.ManifestFile.{ManifestFile}
-use Rattle.bl_manifest.specs.Held.{Edits, AreReadBack, manifest_of, HoldsEdits, ReadsEdits, ReadsFirst}
+use Rattle.bl_manifest.specs.ManifestFile.{ManifestFile, file_of}
+use Rattle.bl_manifest.specs.Held.{Edits, AreReadBack, manifest_of, HoldsEdits, ReadsEdits}
 use Rattle.bl_manifest.specs.Restores.{Restores, payloads, version_behind, BreaksOff, IsFaulty}
 use Rattle.bl_manifest.specs.Laws.{CutManifestsReadAsFronts, CutAppendsReadAsFronts, SyncedManifestsAreLeft, ManifestsAreRead, BytesAreDecided, FaultyDoNotRestore, FaultsHaveOnePlace}
 use Rattle.bl_manifest.proofs.EditLemmas.{first_edit, edits_first, found_more, first_step, none_applied, applied_then, applied_one}
-use Rattle.bl_manifest.proofs.HeldLemmas.{same_holds, handed_holds, synced_holds}
+use Rattle.bl_manifest.proofs.HeldLemmas.{are_more}
 
--- ---- lists
+-- ---- files of records
 
--- what is the first of some things, and has the first of them in it, is the first so many
-both_first : {X : Type 0} (some all front more rest : List X) → all ≡ some ++ more → some ≡ front ++ rest → (length front ≤ length some) × (length some ≤ length all) × (some ≡ take (length some) all)
-both_first some all front more rest whole has =
-    let n : length all ≡ length some + length more = ap length whole ∙ length-append some more in
-    let m : length some ≡ length front + length rest = ap length has ∙ length-append front rest in
-    (omega arith, omega arith, sym (take_all (length some) some (omega arith)) ∙ sym (take-append-le (length some) some more (omega arith)) ∙ ap (take (length some)) (sym whole))
-
--- ---- a manifest after a cut
-
--- the file that a cut leaves of the manifest
-left_of : (disk : Disk) (manifest : ManifestFile) (edits : Edits) (synced : ℕ) (told : List ℕ) (c : Cut) (h : HoldsEdits disk manifest edits synced) → IsCut disk told c
-    → (bytes : List ℕ) × (c.folder (manifest_name manifest.number) ≡ Some bytes) × IsRemnant h.file bytes
-left_of disk manifest edits synced told c h is = left_some h.file (c.folder (manifest_name manifest.number)) (subst (λ (o : Option File). IsLeft o (c.folder (manifest_name manifest.number))) h.there (is.image (manifest_name manifest.number)))
-
--- what was written of it by then
-written_there : (disk : Disk) (manifest : ManifestFile) (edits : Edits) (synced : ℕ) (told : List ℕ) (c : Cut) → HoldsEdits disk manifest edits synced → IsCut disk told c → c.written (manifest_name manifest.number) ≡ Some (manifest_of edits)
-written_there disk manifest edits synced told c h is =
-    is.written_is (manifest_name manifest.number) ∙ ap (λ (o : Option File). option_map (λ (f : File). f.front ++ f.handed) o) h.there ∙ ap Some h.all
-
-unfoldable pub WrittenIsLog : Type 0
-WrittenIsLog = (payloads : List (List ℕ)) → IsLog (written 0 payloads) payloads
-
-unfoldable pub LogIsRead : Type 0
-LogIsRead = (bytes : List ℕ) (payloads : List (List ℕ)) → IsLog bytes payloads → records bytes ≡ payloads
-
-unfoldable pub LogIsReadFirst : Type 0
-LogIsReadFirst = (bytes : List ℕ) (payloads : List (List ℕ)) → IsLog bytes payloads → (more : List ℕ) → (rest : List (List ℕ)) × (records (bytes ++ more) ≡ payloads ++ rest)
-
-unfoldable pub OnlyWrittenIsFirst : Type 0
-OnlyWrittenIsFirst = (bytes all : List ℕ) → OnlyWritten bytes all → (rest : List (List ℕ)) × (records all ≡ records bytes ++ rest)
-
-pub cut_reads : WrittenIsLog → LogIsRead → LogIsReadFirst → OnlyWrittenIsFirst → CutManifestsReadAsFronts
-unfolding WrittenIsLog LogIsRead LogIsReadFirst OnlyWrittenIsFirst
-cut_reads is_log is_read is_first only disk manifest edits synced told c h is none =
-    let left = left_of disk manifest edits synced told c h is in
-    let chance = none left.0 left.1 in
-    let same : chance.0 ≡ manifest_of edits = let e : Some chance.0 ≡ Some (manifest_of edits) = sym chance.1 ∙ written_there disk manifest edits synced told c h is in cc e in
-    let matches : OnlyWritten left.0 (manifest_of edits) = subst (OnlyWritten left.0) same chance.2 in
-    let more = only left.0 (manifest_of edits) matches in
-    let whole : map edit_bytes edits ≡ records left.0 ++ more.0 = sym (is_read (manifest_of edits) (map edit_bytes edits) (is_log (map edit_bytes edits))) ∙ more.1 in
-    let synced_ones = map edit_bytes (take synced edits) in
-    let rest = is_first (manifest_of (take synced edits)) synced_ones (is_log synced_ones) left.2.tail in
-    let begins : left.0 ≡ manifest_of (take synced edits) ++ left.2.tail = left.2.split ∙ ap (λ f. f ++ left.2.tail) h.front in
-    let both = both_first (records left.0) (map edit_bytes edits) synced_ones more.0 rest.0 whole (ap records begins ∙ rest.1) in
-    let n : length synced_ones ≡ synced = length-map (take synced edits) edit_bytes ∙ length-take-le synced edits h.within in
-    let m : length (map edit_bytes edits) ≡ length edits = length-map edits edit_bytes in
+pub cut_reads : CutFilesReadAsFronts → CutManifestsReadAsFronts
+cut_reads law disk manifest edits synced told c h is chance =
+    let r = law disk (file_of manifest) (Manifest manifest.number) (map edit_bytes edits) synced told c refl h.records is chance in
     record {
-      count = length (records left.0);
-      at_least = omega (arith, both.0, n);
-      at_most = omega (arith, both.1, m);
+      count = r.first.count;
+      at_least = r.first.at_least;
+      at_most = within_of edit_bytes edits r.first.count r.first.at_most;
       reads = record {
-        bytes = left.0;
-        there = left.1;
-        are = ap edits_of both.2 ∙ edits_first (length (records left.0)) (map edit_bytes edits) edits h.are;
+        bytes = r.bytes;
+        there = r.there;
+        are = ap edits_of r.first.reads ∙ edits_first r.first.count (map edit_bytes edits) edits h.are;
       };
     }
 
--- the bytes of these edits read as them
-pub reads_back : WrittenIsLog → LogIsRead → (edits : Edits) → AreReadBack edits → edits_of (records (manifest_of edits)) ≡ Some edits
-unfolding WrittenIsLog LogIsRead
-reads_back is_log is_read edits are = ap edits_of (is_read (manifest_of edits) (map edit_bytes edits) (is_log (map edit_bytes edits))) ∙ are
+-- so many records as there are edits
+whole_records : (disk : Disk) (manifest : ManifestFile) (edits : Edits) (synced : ℕ) → synced ≡ length edits → HoldsEdits disk manifest edits synced
+    → HoldsRecords disk (file_of manifest) (map edit_bytes edits) (length (map edit_bytes edits))
+whole_records disk manifest edits synced whole h =
+    let P : ℕ → Type 0 = λ n. HoldsRecords disk (file_of manifest) (map edit_bytes edits) n in
+    subst P (whole ∙ sym (length-map edits edit_bytes)) h.records
 
-pub synced_left : WrittenIsLog → LogIsRead → SyncedManifestsAreLeft
-synced_left is_log is_read disk manifest edits told c h is =
-    let left = left_of disk manifest edits (length edits) told c h is in
-    let front : h.file.front ≡ manifest_of edits = h.front ∙ ap manifest_of (take_all (length edits) edits (omega arith)) in
-    let size : length (h.file.front ++ h.file.handed) ≡ length h.file.front = ap length (h.all ∙ sym front) in
-    let none : h.file.handed ≡ [] = nil_from_length h.file.handed (omega (arith, size, length-append h.file.front h.file.handed)) in
-    let there : c.folder (manifest_name manifest.number) ≡ Some (manifest_of edits) = left.1 ∙ ap Some (whole_remnant h.file left.0 none left.2 ∙ front) in
-    (there, record { bytes = manifest_of edits; there = there; are = reads_back is_log is_read edits h.are })
+-- the bytes of these edits read as them
+reads_back : FilesAreRead → (edits : Edits) → AreReadBack edits → edits_of (records (manifest_of edits)) ≡ Some edits
+reads_back law edits are = ap edits_of (law (map edit_bytes edits)) ∙ are
+
+pub synced_left : FilesAreRead → SyncedFilesAreLeft → SyncedManifestsAreLeft
+synced_left read left disk manifest edits told c h is =
+    let there = left disk (file_of manifest) (map edit_bytes edits) told c (whole_records disk manifest edits (length edits) refl h) is in
+    (there, record { bytes = manifest_of edits; there = there; are = reads_back read edits h.are })
 
 -- so does each cut of a manifest whose last edit is synced
 pub appended_left : SyncedManifestsAreLeft → (disk : Disk) (manifest : ManifestFile) (edits : Edits) (e : Edit) (told : List ℕ) (c : Cut) → HoldsEdits disk manifest (edits ++ e ∷ []) (length edits + 1) → IsCut disk told c
@@ -106,41 +65,19 @@ appended_left left disk manifest edits e told c h is =
     let N : ℕ → Type 0 = λ n. HoldsEdits disk manifest (edits ++ e ∷ []) n in
     (left disk manifest (edits ++ e ∷ []) told c (subst N (sym (length-append edits (e ∷ []))) h) is).1
 
-pub manifests_read : WrittenIsLog → LogIsRead → ManifestsAreRead
-manifests_read is_log is_read disk manifest edits synced open_ h = record {
+pub manifests_read : FilesAreRead → ManifestsAreRead
+manifests_read read disk manifest edits synced open_ h = record {
   bytes = manifest_of edits;
-  there = ap (λ (o : Option File). option_map (λ (f : File). f.read) o) h.there ∙ ap Some (h.reads open_);
-  are = reads_back is_log is_read edits h.are;
+  there = ap (λ (o : Option File). option_map (λ (f : File). f.read) o) h.records.there ∙ ap Some (h.records.reads open_);
+  are = reads_back read edits h.are;
 }
 
--- the first so many of edits and one more, where these are no fewer: all but it, or all
-one_or_both : (edits : Edits) (e : Edit) (number : ℕ) (c : Cut) → ReadsFirst c.folder number (edits ++ e ∷ []) (length edits) → ReadsEdits c.folder number edits ⊎ ReadsEdits c.folder number (edits ++ e ∷ [])
-one_or_both edits e number c first =
-    let long : length (edits ++ e ∷ []) ≡ length edits + 1 = length-append edits (e ∷ []) in
-    let count : (first.count ≡ length edits) ⊎ (length (edits ++ e ∷ []) ≤ first.count) = grind (arith, first.at_least, first.at_most) in
-    let P : Edits → Type 0 = λ es. ReadsEdits c.folder number es in
-    elim count [
-      | inl fewer ↦ inl (subst P (ap (λ n. take n (edits ++ e ∷ [])) fewer ∙ take-append-le (length edits) edits (e ∷ []) (omega arith) ∙ take_all (length edits) edits (omega arith)) first.reads)
-      | inr all ↦ inr (subst P (take_all first.count (edits ++ e ∷ []) all) first.reads)
-    ]
-
-failed_one : ManifestFile → ManifestFile
-failed_one m = record { number = m.number; place = m.place; failed = true }
-
-pub appends_read : WrittenIsLog → LogIsRead → LogIsReadFirst → OnlyWrittenIsFirst → CutAppendsReadAsFronts
-unfolding failed_one
-appends_read is_log is_read is_first only disk during manifest edits synced e told c open_ h one partly is none =
-    let whole : synced ≡ length edits = h.all_synced open_ in
-    let H : ℕ → Type 0 = λ n. HoldsEdits disk manifest edits n in
-    elim partly [
-      | inl same ↦ inl (synced_left is_log is_read during manifest edits told c (same_holds disk during manifest manifest edits (length edits) same refl (λ still. refl) (subst H whole h)) is).1
-      | inr a ↦ elim a.written [
-        | inl handed ↦ one_or_both edits e manifest.number c
-            (cut_reads is_log is_read is_first only during (failed_one manifest) (edits ++ e ∷ []) (length edits) told c
-            (handed_holds disk during manifest (failed_one manifest) edits e (length edits) a.file a.now open_ refl refl one a.was a.puts.at handed.0 handed.1 (subst H whole h)) is none)
-        | inr synced' ↦ inr (appended_left (synced_left is_log is_read) during (failed_one manifest) edits e told c
-            (synced_holds disk during manifest (failed_one manifest) edits e synced a.file a.now open_ refl (λ still. absurd (let wrong : true ≡ false = still in cc wrong)) one a.was a.puts.at synced'.0 synced'.1 h) is)
-      ]
+pub appends_read : AppendsReadAsFronts → CutAppendsReadAsFronts
+appends_read law disk during manifest edits synced e told c open_ h one partly is chance =
+    let added = edit_bytes e ∷ [] in
+    elim (law disk during (file_of manifest) (Manifest manifest.number) (map edit_bytes edits) (edit_bytes e) told c open_ refl (whole_records disk manifest edits synced (h.all_synced open_) h) partly is chance) [
+      | inl without ↦ inl (record { bytes = without.bytes; there = without.there; are = ap edits_of without.reads ∙ h.are })
+      | inr with_it ↦ inr (record { bytes = with_it.bytes; there = with_it.there; are = ap edits_of (with_it.reads ∙ sym (map-append edit_bytes edits (e ∷ []))) ∙ are_more edits e h.are one })
     ]
 
 -- ---- which bytes restore something

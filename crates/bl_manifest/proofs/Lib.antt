@@ -2,5 +2,3 @@ mod EditLemmas
 mod HeldLemmas
 mod LawLemmas
 mod ProgressLemmas
-mod TimeLemmas
-mod WritingLemmas

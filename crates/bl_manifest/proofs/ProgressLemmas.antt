@@ -1,5 +1,5 @@
 -- A reading, step by step.
-use Rattle.std.proofs.Common.{◌≡◌, ◌⊎◌, inl, inr, ℕ, Bool, true, List, [], ◌∷◌, ◌++◌, map, Option, Some, None, Ok, refl, sym, ◌∙◌, ap, subst}
+use Rattle.std.proofs.Common.{◌≡◌, ◌⊎◌, inl, inr, ℕ, List, [], ◌∷◌, ◌++◌, map, Option, Some, None, Ok, refl, sym, ◌∙◌, ap, subst}
 use Rattle.bl_site.specs.Disk.{Folder}
 use Rattle.bl_names.specs.Names.{manifest_name}
 use Rattle.bl_log.specs.Log.{records, placed_records}
@@ -35,7 +35,7 @@ module _ (file : Option (List ℕ)) where
   begins reader base known has empty none = record { found = []; has = has; edits = []; are = refl; base_is = nothing_applied ∙ ap Ok (sym empty); known_is = none }
 
   pub record_taken : (old new : FileReading) (payload : List ℕ) (base after : Listing) (known known_after : Edit)
-      → ((found : List (List ℕ × ℕ)) → HasFound file found old → FindsNext file found payload new) → Taken true payload base after known known_after
+      → ((found : List (List ℕ × ℕ)) → HasFound file found old → FindsNext file found payload new) → Taken (Some after) payload base known known_after
       → Progress file old base known → Progress file new after known_after
   record_taken old new payload base after known known_after finds (e, read, fits, learned) p =
       let f = finds p.found p.has in
@@ -107,12 +107,12 @@ broke_off folder number old new payload base known place finds none at p =
       }),
     )
 
-pub taken_of : (goes_on goes : Bool) (payload bytes : List ℕ) (base after : Listing) (known known_after : Edit) → goes_on ≡ goes → bytes ≡ payload
-    → Taken goes_on bytes base after known known_after → Taken goes payload base after known known_after
-taken_of goes_on goes payload bytes base after known known_after eg eb t =
-    let P : Bool → Type 0 = λ b. Taken b bytes base after known known_after in
-    let Q : List ℕ → Type 0 = λ b. Taken goes b base after known known_after in
-    subst Q eb (subst P eg t)
+pub taken_of : (taken is : Option Listing) (payload bytes : List ℕ) (base : Listing) (known known_after : Edit) → taken ≡ is → bytes ≡ payload
+    → Taken taken bytes base known known_after → Taken is payload base known known_after
+taken_of taken is payload bytes base known known_after et eb t =
+    let P : Option Listing → Type 0 = λ o. Taken o bytes base known known_after in
+    let Q : List ℕ → Type 0 = λ b. Taken is b base known known_after in
+    subst Q eb (subst P et t)
 
 pub corrupt_is : (r : ManifestErr) (name file : List ℕ) (at place : ℕ) → (r ≡ OutOfMemory) ⊎ (r ≡ Corrupt name at) → r ≡ Corrupt file place → (file ≡ name) × (place ≡ at)
 corrupt_is r name file at place either is = elim either [

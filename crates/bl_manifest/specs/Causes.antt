@@ -1,30 +1,14 @@
--- What a failed call of a site is here, and how often the folder was asked.
-use Rattle.std.specs.Prelude.{◌≡◌, ◌⊎◌, ℕ, ◌+◌, ◌-◌, ◌≤◌, ◌^◌, min}
-use Rattle.bl_site.specs.declared.site.SiteErr.{SiteErr}
-use Rattle.bl_site.specs.declared.site.SiteErr.TheVariants as site
+-- What a failed call on records is here.
+use Rattle.std.specs.Prelude.{◌≡◌, ◌⊎◌}
 use Rattle.bl_records.specs.declared.error.RecordErr.{RecordErr}
-use Rattle.bl_records.specs.declared.error.RecordErr.TheVariants as read
+use Rattle.bl_records.specs.declared.error.RecordErr.TheVariants as record_err
 use Rattle.bl_manifest.specs.declared.error.ManifestErr.{ManifestErr}
 use Rattle.bl_manifest.specs.declared.error.ManifestErr.TheVariants.{Disk, OutOfMemory}
 
-abbrev pub error_of : SiteErr → ManifestErr
-error_of site.DiskFailed = Disk
-error_of site.TellFailed = Disk
-error_of site.OutOfMemory = OutOfMemory
-
--- what a record that could not be read on is here
-abbrev pub read_error_of : RecordErr → ManifestErr
-read_error_of read.Disk = Disk
-read_error_of read.OutOfMemory = OutOfMemory
+abbrev pub error_of : RecordErr → ManifestErr
+error_of record_err.Disk = Disk
+error_of record_err.OutOfMemory = OutOfMemory
 
 -- a call that writes fails by the disk or for want of memory
 abbrev pub IsCause : ManifestErr → Type 0
 IsCause e = (e ≡ Disk) ⊎ (e ≡ OutOfMemory)
-
--- a count behind so many calls more; it stops at 2 ^ 64 - 1
-abbrev pub more : ℕ → ℕ → ℕ
-more calls count = min (count + calls) (2 ^ 64 - 1)
-
--- the folder was asked, at most so many times
-abbrev pub AsksUpTo : ℕ → ℕ → ℕ → Type 0
-AsksUpTo most before now = (calls : ℕ) × (1 ≤ calls) × (calls ≤ most) × (now ≡ more calls before)

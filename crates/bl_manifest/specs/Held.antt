@@ -1,13 +1,14 @@
 -- The edits that a manifest holds on the disk, and what a power cut leaves of them.
-use Rattle.std.specs.Prelude.{◌≡◌, ◌⊎◌, ℕ, ◌+◌, ◌%◌, ◌≤◌, false, List, [], ◌∷◌, ◌++◌, length, map, take, Some, Result, Ok, Err}
-use Rattle.bl_site.specs.Disk.{Disk, File, Folder}
+use Rattle.std.specs.Prelude.{◌≡◌, ◌⊎◌, ℕ, ◌+◌, ◌≤◌, false, List, [], ◌∷◌, ◌++◌, length, map, take, Some, Result, Ok, Err}
+use Rattle.bl_site.specs.Disk.{Disk, Folder}
 use Rattle.bl_names.specs.Names.{manifest_name}
 use Rattle.bl_log.specs.Log.{records}
 use Rattle.bl_log.specs.Layout.{written}
 use Rattle.bl_edit.specs.Spelling.{edit_bytes}
 use Rattle.bl_edit.specs.declared.edit.Edit.{Edit}
 use Rattle.bl_build.specs.Restoring.{edits_of}
-use Rattle.bl_manifest.specs.ManifestFile.{ManifestFile}
+use Rattle.bl_records.specs.Held.{HoldsRecords}
+use Rattle.bl_manifest.specs.ManifestFile.{ManifestFile, file_of}
 use Rattle.bl_manifest.specs.declared.error.ManifestErr.{ManifestErr}
 use Rattle.bl_manifest.specs.declared.error.ManifestErr.TheVariants.{Disk as DiskFailed, Corrupt, OutOfMemory}
 
@@ -25,15 +26,9 @@ AreReadBack edits = edits_of (map edit_bytes edits) ≡ Some edits
 
 -- What is written of the manifest are these edits, of which the first so many are synced. While no call of it has failed, all of them are, it reads as it is written, and the next record goes to its end.
 pub record HoldsEdits (disk : Disk) (manifest : ManifestFile) (edits : Edits) (synced : ℕ) : Type 0 where
-  pub file : File
-  pub there : disk (manifest_name manifest.number) ≡ Some file
-  pub within : synced ≤ length edits
-  pub front : file.front ≡ manifest_of (take synced edits)
-  pub all : file.front ++ file.handed ≡ manifest_of edits
+  pub records : HoldsRecords disk (file_of manifest) (map edit_bytes edits) synced
   pub are : AreReadBack edits
   pub all_synced : manifest.failed ≡ false → synced ≡ length edits
-  pub reads : manifest.failed ≡ false → file.read ≡ manifest_of edits
-  pub place : manifest.failed ≡ false → manifest.place ≡ length (manifest_of edits) % 32768
 
 -- after an append: one edit more, synced at Ok; where memory ran out, perhaps not
 abbrev pub HoldsOneMore : Result (Unit {0}) ManifestErr → Disk → ManifestFile → Edits → Edit → ℕ → Type 0

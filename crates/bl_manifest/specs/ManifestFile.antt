@@ -3,6 +3,8 @@ use Rattle.std.specs.Prelude.{ℕ, ◌+◌, ◌%◌, Bool, false, List, length}
 use Rattle.bl_edit.specs.Spelling.{edit_bytes}
 use Rattle.bl_edit.specs.declared.edit.Edit.{Edit}
 use Rattle.bl_log.specs.Layout.{layout}
+use Rattle.bl_names.specs.Names.{manifest_name}
+use Rattle.bl_records.specs.WrittenFile.{WrittenFile}
 
 -- a manifest's number, the place in its block at which the next record stands, and whether a call of it has failed
 pub record ManifestFile : Type 0 where
@@ -21,3 +23,7 @@ record_bytes place e = layout place (edit_bytes e)
 -- the manifest behind these bytes more
 abbrev pub behind : ManifestFile → List ℕ → ManifestFile
 behind manifest bytes = record { number = manifest.number; place = (manifest.place + length bytes) % 32768; failed = manifest.failed }
+
+-- the file that it is
+abbrev pub file_of : ManifestFile → WrittenFile
+file_of manifest = record { name = manifest_name manifest.number; place = manifest.place; failed = manifest.failed }

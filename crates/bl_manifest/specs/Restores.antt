@@ -1,5 +1,5 @@
 -- What reading a manifest gives.
-use Rattle.std.specs.Prelude.{◌≡◌, ◌⊎◌, ℕ, ◌%◌, ◌^◌, Bool, true, false, List, [], ◌∷◌, ◌++◌, map, Option, None, Some, Ok, option_and_then}
+use Rattle.std.specs.Prelude.{◌≡◌, ◌⊎◌, ℕ, ◌%◌, ◌^◌, List, [], ◌∷◌, ◌++◌, map, Option, None, Some, Ok, option_and_then}
 use Rattle.std.specs.Result.{result_ok}
 use Rattle.bl_site.specs.Disk.{Folder}
 use Rattle.bl_names.specs.Names.{manifest_name}
@@ -61,8 +61,8 @@ IsDamaged folder number place =
     ((folder (manifest_name number) ≡ None) × (place ≡ 0))
     ⊎ ((bytes : List ℕ) × (folder (manifest_name number) ≡ Some bytes) × IsFaulty bytes place)
 
--- a record is taken as an edit that fits, and of the single fields those that it gives are known; or it does not fit
-abbrev pub Taken : Bool → List ℕ → Listing → Listing → Edit → Edit → Type 0
-Taken true payload base after known known_after =
+-- the version behind a record that is an edit that fits, with the single fields that are known then; none where it does not fit
+abbrev pub Taken : Option Listing → List ℕ → Listing → Edit → Edit → Type 0
+Taken (Some after) payload base known known_after =
     (e : Edit) × (read_edit payload ≡ Ok e) × (apply base e ≡ Ok after) × (known_after ≡ last_given known (e ∷ []))
-Taken false payload base after known known_after = version_behind base payload ≡ None
+Taken None payload base known known_after = version_behind base payload ≡ None

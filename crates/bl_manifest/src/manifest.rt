@@ -4,9 +4,11 @@ ghost use Rattle.std.specs.Prelude.{◌≡◌, ◌⊎◌, ℕ, ◌+◌, ◌≤�
 ghost use Rattle.bl_site.specs.Disk.{Cut, MayLeave};
 ghost use Rattle.bl_site.specs.Calls.{Appends, DoneOrNot, MayDuring, InDoubt, Elapses};
 ghost use Rattle.bl_site.specs.Causes.{Rose};
+ghost use Rattle.bl_site.specs.Quiet.{TellsNothing};
 ghost use Rattle.bl_names.specs.Names.{IsNumber, manifest_name};
 ghost use Rattle.bl_edit.specs.Bounds.{IsEdit};
-ghost use Rattle.bl_manifest.specs.Causes.{IsCause, AsksUpTo, more};
+ghost use Rattle.bl_records.specs.Causes.{AsksUpTo, more};
+ghost use Rattle.bl_manifest.specs.Causes.{IsCause};
 ghost use Rattle.bl_manifest.specs.ManifestFile.{new_manifest, record_bytes, behind};
 ghost use Rattle.bl_records.specs.Writing.{MakesSynced, MakesPartly, AppendsSynced, AppendsPartly, AppendsInDoubt, Tears};
 ghost use Rattle.bl_manifest.specs.Held.{Edits, AreReadBack, HoldsEdits, HoldsOneMore, ReadsEdits};
@@ -14,8 +16,8 @@ ghost use Rattle.bl_manifest.specs.Held.{Edits, AreReadBack, HoldsEdits, HoldsOn
 use crate::error::ManifestErr;
 use crate::laws::synced_manifests_are_left;
 use bl_edit::{Edit, encode_edit};
-use bl_log::LogWriter;
 use bl_names::{FileName, print_name};
+use bl_records::RecordWriter;
 use bl_site::Site;
 use std::alloc::Global;
 use std::marker::Model;
@@ -23,45 +25,20 @@ use std::marker::Model;
 /// A manifest that is written: its number, and where its next record stands. A contract sees also whether a call of it has failed.
 #[derive(Drop)]
 pub struct Manifest {
-    name: String,
     number: u64,
-    writer: LogWriter,
-    failed: bool,
+    records: RecordWriter,
 }
 
 impl Model for Manifest {
-    ghost use Rattle.std.specs.Prelude.{◌≡◌, string_bytes};
+    ghost use Rattle.std.specs.Prelude.{◌≡◌};
     ghost use Rattle.bl_names.specs.Names.{IsNumber, manifest_name};
     ghost use Rattle.bl_manifest.specs.ManifestFile.{ManifestFile};
 
     ghost Value = { ManifestFile };
 
-    ghost view = { λ m. record { number = m.number; place = m.writer; failed = m.failed } };
+    ghost view = { λ m. record { number = m.number; place = m.records.place; failed = m.records.failed } };
 
-    ghost invariant = { λ m. IsNumber m.number × (string_bytes m.name ≡ manifest_name m.number) };
-}
-
-// The bytes follow in the file, which is in the folder, and then all of it is on the disk.
-fn append_synced<S: Site>(site: &mut S, name: &str, bytes: &[u8]) -> Result<(), ManifestErr>
-    requires { S.shows → IsSome (S.disk site.old name.now) }
-    ensures appended { S.shows → OnOk result (AppendsSynced name.now bytes.now (S.disk site.old) (S.disk site.new)) }
-    ensures torn { S.shows → IsErrOf result ManifestErr.Disk → Tears name.now bytes.now (S.disk site.old) (S.disk site.new) }
-    ensures memory { S.shows → IsErrOf result ManifestErr.OutOfMemory → DoneOrNot (Appends name.now bytes.now bytes.now) (S.disk site.old) (S.disk site.new) }
-    ensures certain { S.shows → S.certain site.old → S.certain site.new }
-    ensures time { S.shows → S.certain site.old → Elapses (S.clock site.old) (S.clock site.new) (S.left_since site.old) (S.left_since site.new)
-        (MayLeave (DoneOrNot (AppendsPartly name.now bytes.now) (S.disk site.old)) (S.told site.old)) }
-    ensures doubt { S.shows → AppendsInDoubt S.disk S.may_be S.told S.clock S.left_since name.now bytes.now site.old site.new }
-    ensures told { S.shows → S.told site.new ≡ S.told site.old }
-    ensures causes { IfErr result IsCause }
-    ensures disk { IsErrOf result ManifestErr.Disk → Rose (S.disk_faults site.old) (S.disk_faults site.new) }
-    ensures later { S.disk_faults site.old ≤ S.disk_faults site.new }
-    ensures tell_faults { S.tell_faults site.new ≡ S.tell_faults site.old }
-    ensures changes { OnOk result (S.changes site.new ≡ more 2 (S.changes site.old)) }
-    ensures asked { OnErr result (AsksUpTo 2 (S.changes site.old) (S.changes site.new)) }
-{
-    site.append(name, bytes)?;
-    site.sync(name)?;
-    Ok(())
+    ghost invariant = { λ m. IsNumber m.number × (m.records.name ≡ manifest_name m.number) };
 }
 
 impl Manifest {
@@ -90,27 +67,18 @@ impl Manifest {
         ensures time { S.shows → Elapses (S.clock site.old) (S.clock site.new) (S.left_since site.old) (S.left_since site.new)
             (MayLeave (MayDuring (MakesPartly (manifest_name number) (record_bytes 0 first.now)) (S.may_be site.old)) (S.told site.old)) }
 
-        ensures told { S.shows → S.told site.new ≡ S.told site.old }
-        ensures causes { IfErr result IsCause }
+        ensures tells_nothing { TellsNothing S.Site site.old site.new }
+        ensures errors { IfErr result IsCause }
         ensures disk { IsErrOf result ManifestErr.Disk → Rose (S.disk_faults site.old) (S.disk_faults site.new) }
-        ensures later { S.disk_faults site.old ≤ S.disk_faults site.new }
-        ensures tell_faults { S.tell_faults site.new ≡ S.tell_faults site.old }
         ensures changes { OnOk result (S.changes site.new ≡ more 3 (S.changes site.old)) }
         ensures asked { IsErrOf result ManifestErr.Disk → AsksUpTo 3 (S.changes site.old) (S.changes site.new) }
         ensures memory { IsErrOf result ManifestErr.OutOfMemory → (site.new ≡ site.old) ⊎ AsksUpTo 3 (S.changes site.old) (S.changes site.new) }
     {
         let name = print_name(alloc, &FileName::Manifest(number))?;
         let payload = encode_edit(alloc, first)?;
-        let mut writer = LogWriter::start();
-        let bytes = writer.frame(alloc, payload.as_slice())?;
-        site.create(name.as_str())?;
-        append_synced(site, name.as_str(), bytes.as_slice())?;
-        Ok(Manifest {
-            name,
-            number,
-            writer,
-            failed: false,
-        })
+        let mut records = RecordWriter::create(alloc, site, name)?;
+        records.append_synced(site, payload.as_slice())?;
+        Ok(Manifest { number, records })
     }
 
     /// Appends an edit, which is in the bounds of the format, as one record, and then syncs the file: at Ok every cut reads the
@@ -159,18 +127,14 @@ impl Manifest {
             (MayLeave (DoneOrNot (AppendsPartly (manifest_name self.old.number) (record_bytes self.old.place edit.now)) (S.disk site.old)) (S.told site.old)) }
         ensures doubt { S.shows → AppendsInDoubt S.disk S.may_be S.told S.clock S.left_since (manifest_name self.old.number) (record_bytes self.old.place edit.now) site.old site.new }
 
-        ensures told { S.shows → S.told site.new ≡ S.told site.old }
-        ensures causes { IfErr result IsCause }
+        ensures tells_nothing { TellsNothing S.Site site.old site.new }
+        ensures errors { IfErr result IsCause }
         ensures disk { IsErrOf result ManifestErr.Disk → Rose (S.disk_faults site.old) (S.disk_faults site.new) }
-        ensures later { S.disk_faults site.old ≤ S.disk_faults site.new }
-        ensures tell_faults { S.tell_faults site.new ≡ S.tell_faults site.old }
     {
         synced_manifests_are_left();
         let payload = encode_edit(alloc, edit)?;
-        let bytes = self.writer.frame(alloc, payload.as_slice())?;
-        let done = append_synced(site, self.name.as_str(), bytes.as_slice());
-        self.failed = done.is_err();
-        done
+        self.records.append_synced(site, payload.as_slice())?;
+        Ok(())
     }
 
     /// The file's number.
@@ -185,6 +149,6 @@ impl Manifest {
     pub fn failed(&self) -> bool
         ensures { result ≡ self.now.failed }
     {
-        self.failed
+        self.records.failed()
     }
 }

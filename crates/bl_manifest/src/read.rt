@@ -9,17 +9,14 @@ ghost use Rattle.bl_build.specs.Restoring.{last_given, standing_of as standing_s
 ghost use Rattle.bl_manifest.specs.Restores.{HasRestored, IsDamaged, Taken};
 
 use crate::error::ManifestErr;
-use bl_build::{BadVersion, Standing, Version, apply};
+use bl_build::{BadVersion, Standing, Version, advance};
 use bl_code::Octets;
 use bl_edit::{BadEdit, Edit, decode_edit};
 use bl_log::placed_records_are_records;
-use bl_names::{FileName, print_name};
+use bl_names::{FILE_LIMIT, FileName, print_name};
 use bl_records::{NextRecord, RecordReader};
 use bl_site::Site;
 use std::alloc::Global;
-
-// Files have numbers below this one, so the next number is at most this.
-const FILE_LIMIT: u64 = 1_000_000_000_000_000;
 
 /// What a manifest restores.
 #[derive(Drop)]
@@ -60,29 +57,28 @@ fn standing_of(known: &Edit) -> Option<Standing>
     }
 }
 
-// A record is taken where it is an edit that fits the version.
+// The version behind a record, where that is an edit that fits. The version before it is moved.
 fn take_record(
     alloc: Global,
-    version: &mut Version,
+    version: Version,
     known: &mut Edit,
     payload: &[u8],
-) -> Result<bool, ManifestErr>
-    ensures taken { IfOk result (λ goes_on. Taken goes_on payload.now version.old version.new known.old known.new) }
+) -> Result<Option<Version>, ManifestErr>
+    ensures taken { IfOk result (λ next. Taken next payload.now version known.old known.new) }
     ensures memory { IfErr result (λ e. e ≡ ManifestErr.OutOfMemory) }
 {
     let edit = match decode_edit(alloc, payload) {
         Ok(edit) => edit,
-        Err(BadEdit::At(_, _)) => return Ok(false),
+        Err(BadEdit::At(_, _)) => return Ok(None),
         Err(BadEdit::OutOfMemory) => return Err(ManifestErr::OutOfMemory),
     };
-    match apply(alloc, version, &edit) {
+    match advance(alloc, version, &edit) {
         Ok(next) => {
-            *version = next;
             learn(known, &edit);
-            Ok(true)
+            Ok(Some(next))
         }
         Err(BadVersion::OutOfMemory) => Err(ManifestErr::OutOfMemory),
-        Err(_) => Ok(false),
+        Err(_) => Ok(None),
     }
 }
 
@@ -96,8 +92,8 @@ fn corrupt(alloc: Global, name: &str, place: u64) -> ManifestErr
 }
 
 /// Reads the manifest of this number, from 1 to 10^15 - 1: the version that its edits lead to from the empty one, and the single
-/// fields as they were given last. A manifest that is cut, or damaged, in a fragment ends there. It holds one version, one record
-/// and one piece of the file at a time, and a second version while an edit is applied.
+/// fields as they were given last. A manifest that is cut, or damaged, in a fragment ends there. It holds one version, whose tables
+/// each edit moves on, one record and one piece of the file at a time.
 ///
 /// Errors: `Corrupt` with the manifest's name: at 0 where it is not in the folder; behind a record that is no edit, or whose edit
 /// does not fit the version; and at the place where reading ends where a field is not known, or the next file number is above
@@ -118,10 +114,11 @@ pub fn read_all<S: Site>(alloc: Global, site: &mut S, number: u64) -> Result<Res
     'records: for _ in 0..u64::MAX {
         match records.next(site)? {
             NextRecord::Record(payload) => {
-                let goes_on = take_record(alloc, &mut version, &mut known, payload.as_slice())?;
-                if !goes_on {
+                let taken = take_record(alloc, version, &mut known, payload.as_slice())?;
+                let Some(next) = taken else {
                     return Err(corrupt(alloc, records.name(), records.place()));
-                }
+                };
+                version = next;
             }
             NextRecord::End(place, _) => {
                 let Some(standing) = standing_of(&known) else {

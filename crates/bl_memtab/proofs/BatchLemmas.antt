@@ -1,7 +1,6 @@
 -- A memory table that is filled with the batches of a list of records.
 use Rattle.std.proofs.Common.{◌≡◌, ℕ, ◌+◌, List, [], ◌∷◌, ◌++◌, length, Bool, true, false, refl, sym, ◌∙◌, ap, subst, append_assoc, append-nil, Option, Some, None}
 use Rattle.std.specs.Prelude.{cond, ◌==◌, Ok, Err, Result}
-use Rattle.std.specs.Option.{unwrap_or}
 use Rattle.std.proofs.lemmas.Bool.{eqb-true}
 use Rattle.std.proofs.lemmas.List.Concat.{flat_map-cons}
 use Rattle.bl_entry.specs.Batches.{Batch}
@@ -11,12 +10,10 @@ use Rattle.bl_entry.specs.Records.{and_batch, batch_behind, batches_of}
 use Rattle.bl_entry.specs.declared.decode.BadBatch.{BadBatch}
 use Rattle.bl_entry.specs.declared.key.Entry.{Entry}
 use Rattle.bl_entry.specs.Written.{entries_from, entries_of}
+use Rattle.bl_entry.proofs.ItemLemmas.{some_is}
 use Rattle.bl_memtab.specs.Filled.{AreFree, BatchesAreHeld, Holds, filled}
 use Rattle.bl_memtab.specs.Tables.{with_entry}
 use Rattle.bl_memtab.proofs.FilledLemmas.{operations_are_held}
-
-pub some_is : {A : Type 0} {x y : A} → Some x ≡ Some y → x ≡ y
-some_is {x = x} e = ap (λ o. unwrap_or o x) e
 
 -- the first record is the first batch, and the others follow
 pub record First (bytes : List ℕ) (records : List (List ℕ)) (before last : ℕ) (batches : List Batch) : Type 0 where

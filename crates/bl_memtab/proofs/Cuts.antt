@@ -5,7 +5,8 @@ use Rattle.std.specs.List.{AllByRecursion, prefix_len}
 use Rattle.std.specs.List.Sorted.{IsPartitionedBy, IsPartitionPoint}
 use Rattle.std.proofs.lemmas.Bool.{false≢true}
 use Rattle.std.proofs.lemmas.List.Sums.{prefix_len_is}
-use Rattle.bl_entry.proofs.ListLemmas.{all_at, by_test}
+use Rattle.bl_code.proofs.Basics.{all_get}
+use Rattle.bl_entry.proofs.ListLemmas.{by_test}
 
 -- whatever comes behind an item that fails fails too
 unfoldable pub IsCut : {A : Type 0} → (A → Bool) → List A → Type 0
@@ -25,7 +26,7 @@ unfolding IsCut
 cut_parted p [] h i j d le lt t = absurd (omega arith)
 cut_parted p (x ∷ xs) h zero zero d le lt t = t
 cut_parted p (x ∷ xs) h zero (suc j) d le lt t =
-    by_test (p x) (λ e. e) (λ e. absurd (false≢true (sym (all_at (λ y. p y ≡ false) xs j d (h.0 e) (omega arith)) ∙ t)))
+    by_test (p x) (λ e. e) (λ e. absurd (false≢true (sym (all_get (λ y. p y ≡ false) xs j d (h.0 e) (omega arith)) ∙ t)))
 cut_parted p (x ∷ xs) h (suc i) zero d le lt t = absurd (omega arith)
 cut_parted p (x ∷ xs) h (suc i) (suc j) d le lt t = cut_parted p xs h.1 i j d (omega arith) (omega arith) t
 

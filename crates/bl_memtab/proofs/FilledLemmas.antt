@@ -6,6 +6,7 @@ use Rattle.std.specs.List.Sorted.{IsPermutation, IsStrictlySortedBy}
 use Rattle.std.proofs.lemmas.Bool.{lt-ltb}
 use Rattle.std.proofs.lemmas.List.{map-append}
 use Rattle.std.proofs.lemmas.List.Sorted.{IsPermutation-insert, IsPermutation-refl, IsPermutation-to_front, IsPermutation-trans, IsPermutation-cons}
+use Rattle.bl_code.proofs.Basics.{all_from}
 use Rattle.bl_entry.specs.Entries.{EntriesUpTo}
 use Rattle.bl_entry.specs.Keys.{KeysDiffer}
 use Rattle.bl_entry.specs.Latest.{LatestIsTheValue, AscendingAreInOrder, revision_of}
@@ -13,7 +14,7 @@ use Rattle.bl_entry.specs.Revisions.{Revision, later, newest, seen, value_at}
 use Rattle.bl_entry.specs.Written.{EntriesAreRevisions, entries_from, entry}
 use Rattle.bl_entry.specs.declared.key.Entry.{Entry}
 use Rattle.bl_entry.proofs.LaterLemmas.{is_seen_at, seen_cons}
-use Rattle.bl_entry.proofs.ListLemmas.{all_append, all_from, by_test}
+use Rattle.bl_entry.proofs.ListLemmas.{all_append, by_test}
 use Rattle.bl_memtab.specs.Filled.{HeldIsTheValue, Holds, LaterIsFree, NoneIsHeld, OneMoreIsHeld, OperationsAreHeld, filled}
 use Rattle.bl_memtab.specs.Rows.{before}
 use Rattle.bl_memtab.specs.Tables.{IsFree, with_entry}

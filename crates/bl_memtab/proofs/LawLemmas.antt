@@ -10,6 +10,7 @@ use Rattle.bl_entry.specs.declared.key.Entry.{Entry}
 use Rattle.bl_entry.specs.declared.key.Kind.{Kind}
 use Rattle.bl_entry.specs.declared.key.Kind.TheVariants.{Deletion, Value, BlobRef}
 use Rattle.bl_entry.specs.Keys.{IsKey, Key, key_cmp, key_number, kind_number}
+use Rattle.bl_entry.proofs.ItemLemmas.{some_is}
 use Rattle.bl_entry.proofs.OrderLemmas.{AreBehind, key_total}
 use Rattle.bl_memtab.specs.Laws.{AfterIsAtTheNextPlace, AfterIsNext, FirstIsFromLeast, least_key}
 use Rattle.bl_memtab.specs.Tables.{after, is_reached}
@@ -33,19 +34,16 @@ unfolding IsStrictlySortedBy
 after_is_next [] back e up = skips e.key e back (ap is_gt (tied_itself key_total e.key)) ∙ first_behind e back up.0
 after_is_next (x ∷ front) back e up = skips e.key x (front ++ e ∷ back) (ap is_gt (behind_at x.key front back e up.0)) ∙ after_is_next front back e up.1
 
-some_one : {A : Type 0} (x y : A) → Some x ≡ Some y → x ≡ y
-some_one x y e = cc
-
 at_behind : (k : Key) (es : List Entry) (place : ℕ) (e : Entry) → AreBehind k es → slice_get es place ≡ Some e → key_cmp k e.key ≡ Less
 at_behind k [] place e h s = absurd cc
-at_behind k (x ∷ es) zero e h s = subst (λ y. key_cmp k y.key ≡ Less) (some_one x e s) h.0
+at_behind k (x ∷ es) zero e h s = subst (λ y. key_cmp k y.key ≡ Less) (some_is s) h.0
 at_behind k (x ∷ es) (suc place) e h s = at_behind k es place e h.1 s
 
 pub after_is_at_the_next_place : AfterIsAtTheNextPlace
 unfolding IsStrictlySortedBy
 after_is_at_the_next_place [] place e up s = absurd cc
 after_is_at_the_next_place (x ∷ es) zero e up s =
-    let is : x ≡ e = some_one x e s in
+    let is : x ≡ e = some_is s in
     let behind : AreBehind e.key es = subst (λ y. AreBehind y.key es) is up.0 in
     skips e.key x es (ap (λ y. is_gt (key_cmp y.key e.key)) is ∙ ap is_gt (tied_itself key_total e.key)) ∙ first_behind e es behind
 after_is_at_the_next_place (x ∷ es) (suc place) e up s =

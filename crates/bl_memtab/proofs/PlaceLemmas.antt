@@ -10,12 +10,13 @@ use Rattle.std.specs.declared.cmp.Ordering.{Ordering}
 use Rattle.std.specs.declared.cmp.Ordering.TheVariants.{Less, Equal, Greater}
 use Rattle.std.proofs.lemmas.Bool.{false≢true, le-leb}
 use Rattle.bl_code.specs.Order.{bytes_cmp, same_bytes}
+use Rattle.bl_code.proofs.Basics.{all_from, less_is}
 use Rattle.bl_entry.specs.declared.key.Entry.{Entry}
 use Rattle.bl_entry.specs.Entries.{IsAscending, stands_before}
 use Rattle.bl_entry.specs.Keys.{Key, KeysDiffer, key_cmp, key_number, kind_number}
 use Rattle.bl_entry.specs.Latest.{is_seen, latest}
-use Rattle.bl_entry.proofs.ListLemmas.{all_from, by_test}
-use Rattle.bl_entry.proofs.OrderLemmas.{AreBehind, eq_of, key_total, kind_small, less_of, nat_cmp_ge, nat_cmp_lt}
+use Rattle.bl_entry.proofs.ListLemmas.{by_test}
+use Rattle.bl_entry.proofs.OrderLemmas.{AreBehind, eq_of, key_total, kind_small, nat_cmp_ge, nat_cmp_lt}
 use Rattle.bl_memtab.specs.Rows.{before, if_of_user, is_before}
 use Rattle.bl_memtab.specs.Tables.{IsFree, with_entry, is_reached, after}
 use Rattle.bl_memtab.proofs.Cuts.{filter_back, filter_front, find_none, find_same}
@@ -58,10 +59,10 @@ sorted_insert differ e (x ∷ es) up free =
     let one : 1 + n ≡ suc n = omega arith in
     by_test (before e.key x)
     (λ h.
-    let whole : IsAscending (insert (x ∷ es) (suc n) e) = (behind_insert x.key es n e up.0 (less_of (key_cmp x.key e.key) h), sorted_insert differ e es up.1 free.1) in
+    let whole : IsAscending (insert (x ∷ es) (suc n) e) = (behind_insert x.key es n e up.0 (less_is (key_cmp x.key e.key) h), sorted_insert differ e es up.1 free.1) in
     subst (λ k. IsAscending (insert (x ∷ es) k e)) (sym (ap (λ b. cond b (1 + n) 0) h ∙ one)) whole)
     (λ h.
-    let first : key_cmp e.key x.key ≡ Less = less_of (key_cmp e.key x.key) (turned_apart differ x.key e.key free.0 ∙ ap not h) in
+    let first : key_cmp e.key x.key ≡ Less = less_is (key_cmp e.key x.key) (turned_apart differ x.key e.key free.0 ∙ ap not h) in
     let rest : AreBehind e.key es = all_from (λ q. key_cmp x.key q ≡ Less) (λ q. key_cmp e.key q ≡ Less) (map (λ y. y.key) es) (λ q lt. key_total.trans e.key x.key q first lt) up.0 in
     let whole : IsAscending (insert (x ∷ es) 0 e) = ((first, rest), up) in
     subst (λ k. IsAscending (insert (x ∷ es) k e)) (sym (ap (λ b. cond b (1 + n) 0) h)) whole)

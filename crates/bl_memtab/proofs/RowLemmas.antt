@@ -1,6 +1,6 @@
 -- Entries in rows, read and changed as one list.
 use Rattle.std.proofs.Common.{◌≡◌, ℕ, zero, suc, ◌+◌, ◌-◌, ◌<◌, ◌≤◌, Bool, true, false, cond, List, [], ◌∷◌, ◌++◌, length, get_or, map, refl, sym, ◌∙◌, ap, subst, arith, append_assoc}
-use Rattle.std.specs.Prelude.{find, not, min, slice_get, slice_set, Option, Some, None, MatchOption, OnErr, Result, Ok, Err, option_and_then}
+use Rattle.std.specs.Prelude.{find, not, min, slice_get, slice_set, Option, Some, None, MatchOption, option_and_then}
 use Rattle.std.specs.Borrow.{Bor}
 use Rattle.std.specs.List.{AllByRecursion, HoldsAt, prefix_len, insert}
 use Rattle.std.specs.List.Sorted.{IsStrictlySortedBy}
@@ -243,7 +243,3 @@ pub got : (xs : List Entry) (i : ℕ) (found : Option (Bor Entry)) → MatchOpti
     → option_copied found ≡ slice_get xs i
 got xs i None h = sym (get_end xs i h)
 got xs i (Some x) h = sym (get_here xs i x.now h.0 (h.1 x.now))
-
-pub on_err : {A E : Type 0} (result : Result A E) (P : Type 0) → P → OnErr result P
-on_err (Ok x) P h = tt
-on_err (Err e) P h = h

@@ -1,5 +1,6 @@
 //! The entries in rows of bounded length, one row behind the other: an entry that is inserted moves those of
-//! its row alone, and a row that is full becomes two.
+//! its row alone, and a row that is full becomes two. Entries that come in key order, or in the opposite one,
+//! leave full rows.
 
 ghost use Rattle.std.specs.Prelude.{◌≡◌, ◌<◌, ◌≤◌, [], find, not, length, OnOk, OnErr};
 ghost use Rattle.std.specs.List.{prefix_len};
@@ -16,6 +17,9 @@ use std::marker::Model;
 
 // The length at which a row becomes two.
 const FULL: usize = 256;
+
+// A full row is cut at the place of its next entry where this is so near to an end, and else in the middle.
+const NEAR: usize = 16;
 
 // The greatest number that a kind may have.
 const LAST_KIND: u128 = 255;
@@ -201,7 +205,8 @@ fn insert(alloc: Global, rows: &mut Vec<Vec<Entry>>, entry: Entry) -> Result<(),
     if rows[at].len() < FULL {
         return put_in(rows, at, entry);
     }
-    part(alloc, rows, at)?;
+    let cut = cut_of(&rows[at], &entry.key);
+    part(alloc, rows, at, cut)?;
     let at = home_of(rows, &entry.key);
     put_in(rows, at, entry)
 }
@@ -236,18 +241,36 @@ fn put_in(rows: &mut Vec<Vec<Entry>>, at: usize, entry: Entry) -> Result<(), Ent
     Ok(())
 }
 
-// The row becomes two, each with half of its entries.
-fn part(alloc: Global, rows: &mut Vec<Vec<Entry>>, at: usize) -> Result<(), EntryErr>
+// Where a full row is cut for an entry more: entries that come in order all come near to one end, and leave
+// full rows there.
+fn cut_of(row: &[Entry], key: &InternalKey) -> usize
+    requires ascending { IsAscending row.now }
+    requires long { NEAR < length row.now }
+    ensures some { 1 ≤ result }
+    ensures less { result < length row.now }
+{
+    let place = place_of(row, key);
+    if place < NEAR {
+        place.max(1)
+    } else if place > row.len() - NEAR {
+        place.min(row.len() - 1)
+    } else {
+        row.len() / 2
+    }
+}
+
+// The row becomes two, of which the first has so many of its entries.
+fn part(alloc: Global, rows: &mut Vec<Vec<Entry>>, at: usize, cut: usize) -> Result<(), EntryErr>
     requires rows { AreRows rows.old.items }
     requires within { at < length rows.old.items }
-    requires long { 2 ≤ length (row_at rows.old.items at) }
+    requires some { 1 ≤ cut }
+    requires less { cut < length (row_at rows.old.items at) }
     ensures same { entries_in rows.new.items ≡ entries_in rows.old.items }
     ensures rows { AreRows rows.new.items }
     ensures some { 1 ≤ length rows.new.items }
 {
-    let half = rows[at].len() / 2;
     rows.insert(at + 1, Vec::new(alloc))?;
-    match rows[at].split_off(half) {
+    match rows[at].split_off(cut) {
         Ok(back) => {
             rows[at + 1] = back;
             Ok(())

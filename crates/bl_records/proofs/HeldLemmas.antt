@@ -1,16 +1,18 @@
 -- What a file holds after each call.
-use Rattle.std.proofs.Common.{◌≡◌, ℕ, ◌+◌, ◌%◌, ◌<◌, ◌≤◌, Bool, true, false, List, [], ◌∷◌, ◌++◌, length, map, Option, Some, Result, Ok, Err, refl, sym, ◌∙◌, ap, subst, arith, append_assoc, append-nil, length-append}
+use Rattle.std.proofs.Common.{◌≡◌, inr, ℕ, ◌+◌, ◌%◌, ◌<◌, ◌≤◌, Bool, true, false, List, [], ◌∷◌, ◌++◌, length, map, Option, Some, Result, Ok, Err, refl, sym, ◌∙◌, ap, subst, arith, append_assoc, append-nil, length-append}
 use Rattle.std.proofs.lemmas.List.{take-append-le, take_all, length-map}
-use Rattle.std.specs.Prelude.{OnOk}
+use Rattle.std.specs.Prelude.{OnOk, OnErr}
 use Rattle.std.specs.Result.{is_err}
 use Rattle.bl_site.specs.Disk.{Name, Disk, File}
 use Rattle.bl_site.specs.Calls.{Creates, Appends, AppendsAny, Syncs, Frays}
 use Rattle.bl_site.specs.declared.site.SiteErr.{SiteErr}
 use Rattle.bl_site.specs.declared.site.SiteErr.TheVariants as site
 use Rattle.bl_log.specs.Layout.{layout, written}
+use Rattle.bl_records.specs.declared.error.RecordErr.{RecordErr}
+use Rattle.bl_records.specs.declared.error.RecordErr.TheVariants.{Disk as DiskFailed, OutOfMemory}
 use Rattle.bl_records.specs.Causes.{error_of}
 use Rattle.bl_records.specs.WrittenFile.{WrittenFile, new_file, behind}
-use Rattle.bl_records.specs.Held.{HasWritten, HoldsRecords, HoldsOneMore}
+use Rattle.bl_records.specs.Held.{HasWritten, HoldsRecords, HoldsOneMore, HoldsAllSynced, HoldsOneMoreSynced}
 
 -- a log of one record more
 written_more : (place : ℕ) (payloads : List (List ℕ)) (payload : List ℕ) → place < 32768
@@ -215,3 +217,10 @@ sync_done old new writer asked name place failed failed_after payloads synced a 
     let P : Name → Type 0 = λ n. Syncs n old new in
     let open_ : failed ≡ false = ap (λ (w : WrittenFile). w.failed) a.writer_is ∙ a.usable in
     synced_holds old new writer (file_at name place failed_after) payloads synced a.usable (ap (file_at name place) (is ∙ sym open_) ∙ a.writer_is) (subst P (asked_name writer asked name place failed a) done) h
+
+-- after an append that was done, and a sync
+pub synced_more : (result : Result (Unit {0}) RecordErr) (disk : Disk) (writer : WrittenFile) (payloads : List (List ℕ)) (payload : List ℕ) (synced : ℕ)
+    → OnErr result (writer.failed ≡ true) → HoldsAllSynced result disk writer (payloads ++ payload ∷ []) synced → HoldsOneMoreSynced result disk writer payloads payload synced
+synced_more (Ok x) disk writer payloads payload synced fails h = let P : ℕ → Type 0 = λ n. HoldsRecords disk writer (payloads ++ payload ∷ []) n in subst P (length-append payloads (payload ∷ [])) h
+synced_more (Err DiskFailed) disk writer payloads payload synced fails h = h
+synced_more (Err OutOfMemory) disk writer payloads payload synced fails h = inr (fails, h)

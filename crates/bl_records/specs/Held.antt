@@ -1,5 +1,5 @@
 -- The records that a file holds on the disk, and what a power cut leaves of them.
-use Rattle.std.specs.Prelude.{◌≡◌, ℕ, ◌%◌, ◌≤◌, false, List, [], ◌∷◌, ◌++◌, length, take, Some, Result, Ok, Err}
+use Rattle.std.specs.Prelude.{◌≡◌, ◌⊎◌, ℕ, ◌+◌, ◌%◌, ◌≤◌, true, false, List, [], ◌∷◌, ◌++◌, length, take, Some, Result, Ok, Err}
 use Rattle.bl_site.specs.Disk.{Name, Disk, File, Folder}
 use Rattle.bl_log.specs.Log.{records}
 use Rattle.bl_log.specs.Layout.{written}
@@ -33,6 +33,13 @@ HoldsOneMore (Err OutOfMemory) disk writer payloads payload synced = HoldsRecord
 abbrev pub HoldsAllSynced : Result (Unit {0}) RecordErr → Disk → WrittenFile → List (List ℕ) → ℕ → Type 0
 HoldsAllSynced (Ok x) disk writer payloads synced = HoldsRecords disk writer payloads (length payloads)
 HoldsAllSynced (Err e) disk writer payloads synced = HoldsRecords disk writer payloads synced
+
+-- after an append and a sync: one record more, synced at Ok; where memory ran out, perhaps not
+abbrev pub HoldsOneMoreSynced : Result (Unit {0}) RecordErr → Disk → WrittenFile → List (List ℕ) → List ℕ → ℕ → Type 0
+HoldsOneMoreSynced (Ok x) disk writer payloads payload synced = HoldsRecords disk writer (payloads ++ payload ∷ []) (length payloads + 1)
+HoldsOneMoreSynced (Err DiskFailed) disk writer payloads payload synced = HoldsRecords disk writer (payloads ++ payload ∷ []) synced
+HoldsOneMoreSynced (Err OutOfMemory) disk writer payloads payload synced =
+    HoldsRecords disk writer payloads synced ⊎ ((writer.failed ≡ true) × HoldsRecords disk writer (payloads ++ payload ∷ []) synced)
 
 -- the bytes read as the first of these records, at least so many of them
 pub record ReadAsFirst (bytes : List ℕ) (payloads : List (List ℕ)) (least : ℕ) : Type 0 where

@@ -3,11 +3,13 @@
 ghost use Rattle.std.specs.Prelude.{◌≡◌, ◌≤◌, ℕ, List, [], true, false, IsSome, IfOk, OnOk, OnErr, IsErrOf, string_bytes, vec_capacity};
 ghost use Rattle.bl_site.specs.Disk.{MayLeave};
 ghost use Rattle.bl_site.specs.Calls.{Creates, Appends, AppendsAny, Syncs, Frays, DoneOrNot, MayDuring, InDoubt, FollowsFile, KeepsDisk, StandsStill, Elapses};
-ghost use Rattle.bl_site.specs.Causes.{one_more};
+ghost use Rattle.bl_site.specs.Causes.{Rose, one_more};
 ghost use Rattle.bl_site.specs.Quiet.{TellsNothing, HasCauses};
 ghost use Rattle.bl_log.specs.Layout.{layout};
 ghost use Rattle.bl_records.specs.WrittenFile.{new_file, behind};
-ghost use Rattle.bl_records.specs.Held.{HoldsRecords, HoldsOneMore, HoldsAllSynced};
+ghost use Rattle.bl_records.specs.Causes.{AsksUpTo, more};
+ghost use Rattle.bl_records.specs.Held.{HoldsRecords, HoldsOneMore, HoldsOneMoreSynced, HoldsAllSynced};
+ghost use Rattle.bl_records.specs.Writing.{AppendsSynced, AppendsPartly, AppendsInDoubt, Tears};
 
 use crate::error::RecordErr;
 use bl_log::LogWriter;
@@ -164,6 +166,45 @@ impl RecordWriter {
         self.failed = synced.is_err();
         synced?;
         Ok(())
+    }
+
+    /// Appends a record and then syncs the file: at Ok every cut keeps the record. The file is in the folder, and no call of it has
+    /// failed.
+    ///
+    /// Errors: `Disk`, after which the record may be there or not, and what reads behind the synced bytes are any bytes, at most as
+    /// many as were handed over; `OutOfMemory`, after which the record was appended or not. After `OutOfMemory` before the folder was
+    /// asked nothing has changed, and after every other failure the writer has failed.
+    pub fn append_synced<S: Site>(&mut self, site: &mut S, payload: &[u8]) -> Result<(), RecordErr>
+        requires usable { self.old.failed ≡ false }
+        requires there { S.shows → IsSome (S.disk site.old self.old.name) }
+        ensures appended { S.shows → OnOk result (AppendsSynced self.old.name (layout self.old.place payload.now) (S.disk site.old) (S.disk site.new)) }
+        ensures moved { OnOk result (self.new ≡ behind self.old (layout self.old.place payload.now)) }
+        ensures torn { S.shows → IsErrOf result RecordErr.Disk → Tears self.old.name (layout self.old.place payload.now) (S.disk site.old) (S.disk site.new) }
+        ensures memory { S.shows → IsErrOf result RecordErr.OutOfMemory
+            → DoneOrNot (Appends self.old.name (layout self.old.place payload.now) (layout self.old.place payload.now)) (S.disk site.old) (S.disk site.new) }
+
+        // It holds one record more, also where the folder failed: then some of its bytes may be lost.
+        ensures holds { S.shows → (payloads : List (List ℕ)) (synced : ℕ) → HoldsRecords (S.disk site.old) self.old payloads synced
+            → HoldsOneMoreSynced result (S.disk site.new) self.new payloads payload.now synced }
+
+        // It has failed exactly after `Disk`, and after `OutOfMemory` once the folder was asked; else nothing has changed.
+        ensures disk_fails { IsErrOf result RecordErr.Disk → self.new.failed ≡ true }
+        ensures asked_fails { self.new.failed ≡ true → AsksUpTo 2 (S.changes site.old) (S.changes site.new) }
+        ensures stays { OnErr result (self.new.failed ≡ false → (self.new ≡ self.old) × (site.new ≡ site.old)) }
+        ensures asked { OnOk result (S.changes site.new ≡ more 2 (S.changes site.old)) }
+        ensures name { self.new.name ≡ self.old.name }
+
+        // What a cut during it, or after it, may leave: where no name call is in doubt, and in every case.
+        ensures certain { S.shows → S.certain site.old → S.certain site.new }
+        ensures time { S.shows → S.certain site.old → Elapses (S.clock site.old) (S.clock site.new) (S.left_since site.old) (S.left_since site.new)
+            (MayLeave (DoneOrNot (AppendsPartly self.old.name (layout self.old.place payload.now)) (S.disk site.old)) (S.told site.old)) }
+        ensures doubt { S.shows → AppendsInDoubt S.disk S.may_be S.told S.clock S.left_since self.old.name (layout self.old.place payload.now) site.old site.new }
+
+        ensures tells_nothing { TellsNothing S.Site site.old site.new }
+        ensures disk { IsErrOf result RecordErr.Disk → Rose (S.disk_faults site.old) (S.disk_faults site.new) }
+    {
+        self.append(site, payload)?;
+        self.sync(site)
     }
 
     /// Whether a call of it has failed: it answered `Disk`, or `OutOfMemory` once the folder was asked. No other call may follow.

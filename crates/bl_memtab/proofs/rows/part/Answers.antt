@@ -1,4 +1,4 @@
-use Rattle.std.proofs.Common.{◌≡◌, ℕ, suc, ◌+◌, ◌/◌, ◌<◌, ◌∙◌, List, length, get_or, sym, ap, subst, arith, take, drop}
+use Rattle.std.proofs.Common.{◌≡◌, ℕ, suc, ◌+◌, ◌<◌, ◌∙◌, List, length, get_or, sym, ap, subst, arith, take, drop}
 use Rattle.std.specs.Prelude.{slice_set}
 use Rattle.std.specs.List.{insert}
 use Rattle.bl_memtab.specs.Rows.{Row, entries_in, row_at}
@@ -14,28 +14,23 @@ found rows inserted at new row lt put is =
 
 pub split_off-requires : goal.split_off-requires
 split_off-requires c =
-    let rows : List Row = c.args.rows.now.items in
-    let is = found rows c.insert.new.self.items c.args.at c.new.result c.index_mut.result.now c.requires.within c.in_ok-insert.ensures.items c.index_mut.ensures.value in
-    let was : c.index.result.now.items ≡ row_at rows c.args.at = ap (λ r. r.items) c.index.ensures ∙ row_at_is rows c.args.at c.index.result.now c.requires.within in
-    omega (arith, ap length is, ap length was, c.len-half.ensures, c.index.result.now.ok, c.index_mut.result.now.ok)
+    let is = found c.args.rows.now.items c.insert.new.self.items c.args.at c.new.result c.index_mut.result.now c.requires.within c.in_ok-insert.ensures.items c.index_mut.ensures.value in
+    omega (arith, ap length is, c.requires.less, c.index_mut.result.now.ok)
 
 done : (c : goal.After-drop-index_mut) → StandFor (slice_set (slice_set c.insert.new.self.items c.args.at c.split_off.new.self) (c.args.at + 1) c.in-Ok.back) (entries_in c.args.rows.now.items)
 done c =
     let rows : List Row = c.args.rows.now.items in
     let at : ℕ = c.args.at in
-    let half : ℕ = c.len-half.result / 2 in
     let front : Row = c.split_off.new.self in
     let back : Row = c.in-Ok.back in
     let is : c.index_mut.result.now.items ≡ row_at rows at = found rows c.insert.new.self.items at c.new.result c.index_mut.result.now c.requires.within c.in_ok-insert.ensures.items c.index_mut.ensures.value in
-    let was : c.index.result.now.items ≡ row_at rows at = ap (λ r. r.items) c.index.ensures ∙ row_at_is rows at c.index.result.now c.requires.within in
-    let long : c.len-half.result ≡ length (row_at rows at) = omega (arith, ap length was, c.len-half.ensures, c.index.result.now.ok) in
     let one : at + 1 ≡ suc at = omega arith in
     let put : slice_set (slice_set c.insert.new.self.items at front) (at + 1) back ≡ with_two rows at c.new.result front back =
     ap (λ rs. slice_set (slice_set rs at front) (at + 1) back) c.in_ok-insert.ensures.items
     ∙ ap (λ n. slice_set (slice_set (insert rows n c.new.result) at front) n back) one in
     subst (λ rs. StandFor rs (entries_in rows)) (sym put)
-    (part_done rows at half c.new.result front back c.requires.rows c.requires.within (omega (arith, c.requires.long)) (omega (arith, c.requires.long))
-    (c.in-Ok.ensures.items ∙ ap (take half) is) (c.in-Ok.ensures.tail ∙ ap (drop half) is))
+    (part_done rows at c.args.cut c.new.result front back c.requires.rows c.requires.within c.requires.some c.requires.less
+    (c.in-Ok.ensures.items ∙ ap (take c.args.cut) is) (c.in-Ok.ensures.tail ∙ ap (drop c.args.cut) is))
 
 pub returns-in-Ok-clause-same : goal.returns-in-Ok-clause-same
 returns-in-Ok-clause-same c = (done c).same

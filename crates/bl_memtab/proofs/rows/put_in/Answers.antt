@@ -2,12 +2,13 @@ use Rattle.std.proofs.Common.{◌≡◌, ◌<◌, ◌≤◌, ◌∙◌, Bool, Li
 use Rattle.std.specs.Prelude.{slice_set}
 use Rattle.std.specs.List.{prefix_len, insert}
 use Rattle.std.proofs.lemmas.List.Sums.{prefix_len-le-length}
+use Rattle.bl_code.proofs.Basics.{on_any_err}
 use Rattle.bl_entry.specs.Entries.{IsAscending}
 use Rattle.bl_entry.specs.declared.key.Entry.{Entry}
 use Rattle.bl_memtab.specs.Rows.{Row, before, entries_in, row_at}
 use Rattle.bl_memtab.specs.Tables.{with_entry}
 use Rattle.bl_memtab.proofs.PutLemmas.{StandFor, left_done, put_done}
-use Rattle.bl_memtab.proofs.RowLemmas.{on_err, row_ascends, row_at_is}
+use Rattle.bl_memtab.proofs.RowLemmas.{row_ascends, row_at_is}
 use Rattle.bl_memtab.proofs.rows.put_in.Goals as goal
 
 pub place_of-place-requires : goal.place_of-place-requires
@@ -31,7 +32,7 @@ left c =
     left_done rows c.args.at c.insert.new.self c.requires.rows lt (c.in_err-insert.ensures.items ∙ is)
 
 pub returns-in_err-insert-clause-err : goal.returns-in_err-insert-clause-err
-returns-in_err-insert-clause-err c = on_err c.from_residual.result _ (left c).same
+returns-in_err-insert-clause-err c = on_any_err c.from_residual.result _ (left c).same
 
 pub returns-in_err-insert-clause-rows : goal.returns-in_err-insert-clause-rows
 returns-in_err-insert-clause-rows c = (left c).kept

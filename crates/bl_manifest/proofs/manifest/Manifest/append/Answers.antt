@@ -1,45 +1,69 @@
-use Rattle.std.proofs.Common.{◌≡◌, ◌∙◌, ◌+◌, ◌%◌, ℕ, Result, [], ◌∷◌, ◌++◌, length, ap, sym, subst}
+use Rattle.std.proofs.Common.{◌∙◌, ◌+◌, ℕ, Result, Err, [], ◌∷◌, ◌++◌, map, length, refl, ap, sym, subst}
+use Rattle.std.proofs.lemmas.List.{length-map}
+use Rattle.std.proofs.lemmas.Result.{err_from_is_err_and}
 use Rattle.bl_site.proofs.Moments.{cut_of_only}
-use Rattle.bl_log.specs.Layout.{layout}
+use Rattle.bl_edit.specs.Spelling.{edit_bytes}
+use Rattle.bl_records.specs.declared.error.RecordErr.{RecordErr}
+use Rattle.bl_records.specs.Held.{HoldsRecords, HoldsOneMoreSynced}
+use Rattle.bl_records.proofs.TimeLemmas.{doubt_none}
 use Rattle.bl_manifest.specs.declared.error.ManifestErr.{ManifestErr}
-use Rattle.bl_manifest.specs.ManifestFile.{ManifestFile, record_bytes}
-use Rattle.bl_manifest.specs.Held.{HoldsEdits, HoldsOneMore, ReadsEdits}
-use Rattle.bl_manifest.proofs.HeldLemmas.{manifest_at, one_read_back, appended_holds}
+use Rattle.bl_manifest.specs.ManifestFile.{ManifestFile}
+use Rattle.bl_manifest.specs.Held.{HoldsOneMore, ReadsEdits}
+use Rattle.bl_manifest.proofs.HeldLemmas.{Appended, manifest_at, one_read_back, records_of, one_more, failed_append}
 use Rattle.bl_manifest.proofs.LawLemmas.{appended_left}
-use Rattle.bl_manifest.proofs.TimeLemmas.{doubt_none}
-use Rattle.bl_manifest.proofs.WritingLemmas.{on_ok}
 use Rattle.bl_manifest.proofs.manifest.Manifest.append.Goals as goal
-
-pub returns-clause-holds : goal.returns-clause-holds
-returns-clause-holds g c = λ shown edits synced h.
-    let s = g.S.Site in
-    let old = s.disk c.args.site.now in
-    let done = c.append_synced-done in
-    let bytes : c.as_slice-2.result.now ≡ record_bytes c.self.inside.writer c.args.edit.now =
-    c.as_slice-2.ensures ∙ c.in_ok-bytes.ensures.layout ∙ ap (layout c.self.inside.writer) (c.as_slice.ensures ∙ c.in_ok-payload.ensures.bytes) in
-    let H : ManifestFile → Type 0 = λ m. HoldsEdits old m edits synced in
-    appended_holds old (s.disk done.new.site) c.self.inside.number c.self.inside.writer c.frame.new.self c.self.inside.failed c.is_err-self-inside.result edits c.args.edit.now synced c.as_str.result.now c.as_slice-2.result.now done.result
-    (ap (λ (m : ManifestFile). m.failed) c.self.view_is ∙ c.requires.usable) (c.as_str.ensures.value ∙ c.self.invariant.1) bytes
-    (c.in_ok-bytes.ensures.moved ∙ ap (λ bs. (c.self.inside.writer + length bs) % 32768) (sym c.as_slice-2.ensures)) c.is_err-self-inside.ensures.value
-    (one_read_back c.args.edit.now c.in_ok-payload.payload c.in_ok-payload.ensures.bytes c.in_ok-payload.ensures.reads)
-    (done.ensures.appended shown) (done.ensures.torn shown) (done.ensures.memory shown) done.ensures.causes (subst H (sym c.self.view_is) h)
-
-pub returns-clause-durable : goal.returns-clause-durable
-returns-clause-durable g c = λ shown certain.
-    let s = g.S.Site in
-    let done = c.append_synced-done in
-    let new = done.new.site in
-    on_ok done.result _ (λ is edits synced h cut leaves.
-    let after = manifest_at c.self.inside.number c.frame.new.self c.is_err-self-inside.result in
-    let P : Result (Unit {0}) ManifestErr → Type 0 = λ r. HoldsOneMore r (s.disk new) after edits c.args.edit.now synced in
-    let N : ℕ → Type 0 = λ n. ReadsEdits cut.folder n (edits ++ c.args.edit.now ∷ []) in
-    subst N (ap (λ (m : ManifestFile). m.number) c.self.view_is)
-    (appended_left c.synced_manifests_are_left.ensures (s.disk new) after edits c.args.edit.now (s.told new) cut
-    (subst P is (returns-clause-holds g c shown edits synced h))
-    (cut_of_only (s.may_be new) (s.disk new) (s.told new) cut (λ other may. g.met.S.Site.only shown new other (done.ensures.certain shown certain) may) leaves)))
 
 pub returns-in_err-payload-clause-doubt : goal.returns-in_err-payload-clause-doubt
 returns-in_err-payload-clause-doubt g c = λ shown. let s = g.S.Site in doubt_none s.disk s.may_be s.told s.clock s.left_since _ _ c.args.site.now
 
-pub returns-in_err-bytes-clause-doubt : goal.returns-in_err-bytes-clause-doubt
-returns-in_err-bytes-clause-doubt g c = λ shown. let s = g.S.Site in doubt_none s.disk s.may_be s.told s.clock s.left_since _ _ c.args.site.now
+pub returns-in_err-append_synced-clause-holds : goal.returns-in_err-append_synced-clause-holds
+returns-in_err-append_synced-clause-holds g c = λ shown edits synced h.
+    let s = g.S.Site in
+    let m = c.self.inside in
+    let e = c.args.edit.now in
+    let done = c.append_synced in
+    let payload = c.as_slice.result.now in
+    let a : Appended m.number done.new.self edits e payload synced = record {
+      named = done.ensures.name ∙ c.self.invariant.1;
+      payload_is = c.as_slice.ensures ∙ c.in_ok-payload.ensures.bytes;
+      are = h.are;
+      one = one_read_back e c.in_ok-payload.payload c.in_ok-payload.ensures.bytes c.in_ok-payload.ensures.reads;
+      whole = h.all_synced c.requires.usable;
+    } in
+    let p = err_from_is_err_and c.from_residual-in_err-append_synced.result c.from_residual-in_err-append_synced.ensures.1 in
+    let P : Result (Unit {0}) ManifestErr → Type 0 = λ r. HoldsOneMore r (s.disk done.new.site) (manifest_at m.number done.new.self) edits e synced in
+    let Q : Result (Unit {0}) RecordErr → Type 0 = λ r. HoldsOneMoreSynced r (s.disk done.new.site) done.new.self (map edit_bytes edits) payload synced in
+    subst P (sym (p.1 ∙ ap Err p.2))
+    (failed_append (s.disk done.new.site) m.number done.new.self edits e payload synced a c.in_err-append_synced.field-0.0 (λ is. done.ensures.disk_fails (c.in_err-append_synced.was ∙ ap Err is))
+    (subst Q c.in_err-append_synced.was (done.ensures.holds shown (map edit_bytes edits) synced (records_of (s.disk c.args.site.now) m.number m.records c.args.self.now edits synced c.self.view_is c.self.invariant.1 h))))
+
+pub returns-clause-holds : goal.returns-clause-holds
+returns-clause-holds g c = λ shown edits synced h.
+    let s = g.S.Site in
+    let m = c.self.inside in
+    let e = c.args.edit.now in
+    let done = c.append_synced in
+    let payload = c.as_slice.result.now in
+    let a : Appended m.number done.new.self edits e payload synced = record {
+      named = done.ensures.name ∙ c.self.invariant.1;
+      payload_is = c.as_slice.ensures ∙ c.in_ok-payload.ensures.bytes;
+      are = h.are;
+      one = one_read_back e c.in_ok-payload.payload c.in_ok-payload.ensures.bytes c.in_ok-payload.ensures.reads;
+      whole = h.all_synced c.requires.usable;
+    } in
+    let Q : Result (Unit {0}) RecordErr → Type 0 = λ r. HoldsOneMoreSynced r (s.disk done.new.site) done.new.self (map edit_bytes edits) payload synced in
+    let N : ℕ → Type 0 = λ n. HoldsRecords (s.disk done.new.site) done.new.self (map edit_bytes edits ++ payload ∷ []) (n + 1) in
+    one_more (s.disk done.new.site) m.number done.new.self edits e payload synced a (length edits + 1) (λ still. refl)
+    (subst N (length-map edits edit_bytes)
+    (subst Q c.in_ok-append_synced.was (done.ensures.holds shown (map edit_bytes edits) synced (records_of (s.disk c.args.site.now) m.number m.records c.args.self.now edits synced c.self.view_is c.self.invariant.1 h))))
+
+pub returns-clause-durable : goal.returns-clause-durable
+returns-clause-durable g c = λ shown certain edits synced h cut leaves.
+    let s = g.S.Site in
+    let e = c.args.edit.now in
+    let done = c.append_synced in
+    let new = done.new.site in
+    let N : ℕ → Type 0 = λ n. ReadsEdits cut.folder n (edits ++ e ∷ []) in
+    subst N (ap (λ (m : ManifestFile). m.number) c.self.view_is)
+    (appended_left c.synced_manifests_are_left.ensures (s.disk new) (manifest_at c.self.inside.number done.new.self) edits e (s.told new) cut (returns-clause-holds g c shown edits synced h)
+    (cut_of_only (s.may_be new) (s.disk new) (s.told new) cut (λ other may. g.met.S.Site.only shown new other (done.ensures.certain shown certain) may) leaves))

@@ -1,18 +1,14 @@
 -- Two changes of one file, one after the other.
-use Rattle.std.proofs.Common.{◌≡◌, inl, inr, ℕ, ◌+◌, ◌≤◌, List, [], ◌++◌, length, Option, Some, Result, Ok, Err, refl, sym, ◌∙◌, ap, subst, arith, append_assoc, append-nil, length-append}
-use Rattle.std.specs.Prelude.{OnOk, OnErr, IfErr, IsErrOf}
+use Rattle.std.proofs.Common.{◌≡◌, inl, inr, Bool, true, false, ℕ, ◌+◌, ◌≤◌, List, [], ◌++◌, length, Some, Result, Ok, Err, refl, sym, ◌∙◌, ap, subst, arith, append_assoc, append-nil, length-append}
+use Rattle.std.specs.Prelude.{OnOk, ◌⊎◌, IsErrOf}
 use Rattle.bl_site.specs.Disk.{Name, Disk, File, IsRemnant}
 use Rattle.bl_site.specs.Calls.{Puts, Creates, Appends, AppendsAny, Syncs, Frays, DoneOrNot}
 use Rattle.bl_site.specs.Causes.{one_more}
-use Rattle.bl_site.specs.declared.site.SiteErr.{SiteErr}
-use Rattle.bl_site.specs.declared.site.SiteErr.TheVariants as site
-use Rattle.bl_manifest.specs.declared.error.ManifestErr.{ManifestErr}
-use Rattle.bl_manifest.specs.declared.error.ManifestErr.TheVariants.{Disk as DiskFailed, Corrupt, OutOfMemory}
-use Rattle.bl_manifest.specs.Causes.{error_of, IsCause, more, AsksUpTo}
+use Rattle.bl_records.specs.declared.error.RecordErr.{RecordErr}
+use Rattle.bl_records.specs.declared.error.RecordErr.TheVariants.{Disk as DiskFailed, OutOfMemory}
+use Rattle.bl_records.specs.Causes.{more, AsksUpTo}
+use Rattle.bl_records.proofs.HeldLemmas.{file_of}
 use Rattle.bl_records.specs.Writing.{MakesSynced, MakesPartly, AppendsSynced, Tears, AppendsPartly}
-
-pub file_of : (o : Option File) (a b : File) → o ≡ Some a → o ≡ Some b → a ≡ b
-file_of o a b first second = let e : Some a ≡ Some b = sym first ∙ second in cc e
 
 puts_then : (name : Name) (a b : File) (old mid new : Disk) → Puts name a old mid → Puts name b mid new → Puts name b old new
 puts_then name a b old mid new first second = record {
@@ -90,25 +86,27 @@ module _ (name : Name) (bytes : List ℕ) where
 
 -- ---- in the words of the code
 
--- what a failed append left, by its error
-pub torn_by : (name : Name) (bytes : List ℕ) (old new : Disk) (error : SiteErr) → ((file : File) → old name ≡ Some file → IsRemnant file file.read) → (error ≡ site.DiskFailed → AppendsAny name bytes old new)
-    → (error ≡ site.TellFailed → ⊥) → error_of error ≡ DiskFailed → Tears name bytes old new
-torn_by name bytes old new site.DiskFailed remnant torn not_tell is = append_torn name bytes old new remnant (torn refl)
-torn_by name bytes old new site.TellFailed remnant torn not_tell is = absurd (not_tell refl)
-torn_by name bytes old new site.OutOfMemory remnant torn not_tell is = absurd (cc is)
+-- after an append, and after a sync, whatever was answered
+pub append_outcome : (name : Name) (bytes : List ℕ) (old new : Disk) (result : Result (Unit {0}) RecordErr) → OnOk result (Appends name bytes bytes old new) → (IsErrOf result DiskFailed → AppendsAny name bytes old new)
+    → (IsErrOf result OutOfMemory → new ≡ old) → (new ≡ old) ⊎ AppendsAny name bytes old new
+append_outcome name bytes old new (Ok x) done torn memory = inr (record { bytes = bytes; no_longer = omega arith; appends = done })
+append_outcome name bytes old new (Err DiskFailed) done torn memory = inr (torn refl)
+append_outcome name bytes old new (Err OutOfMemory) done torn memory = inl (memory refl)
+
+pub sync_outcome : (name : Name) (old new : Disk) (result : Result (Unit {0}) RecordErr) → OnOk result (Syncs name old new) → (IsErrOf result DiskFailed → Frays name old new)
+    → (IsErrOf result OutOfMemory → new ≡ old) → (new ≡ old) ⊎ (Syncs name old new ⊎ Frays name old new)
+sync_outcome name old new (Ok x) done frayed memory = inr (inl done)
+sync_outcome name old new (Err DiskFailed) done frayed memory = inr (inr (frayed refl))
+sync_outcome name old new (Err OutOfMemory) done frayed memory = inl (memory refl)
 
 -- after an append and a sync, whatever was answered
-pub partly_done : (name : Name) (bytes : List ℕ) (old new : Disk) (result : Result (Unit {0}) ManifestErr) → OnOk result (AppendsSynced name bytes old new) → (IsErrOf result DiskFailed → Tears name bytes old new)
-    → (IsErrOf result OutOfMemory → DoneOrNot (Appends name bytes bytes) old new) → IfErr result IsCause → DoneOrNot (AppendsPartly name bytes) old new
-partly_done name bytes old new (Ok x) done torn memory cause = inr (partly_synced name bytes old new done)
-partly_done name bytes old new (Err DiskFailed) done torn memory cause = inr (partly_torn name bytes old new (torn refl))
-partly_done name bytes old new (Err OutOfMemory) done torn memory cause = elim (memory refl) [
+pub partly_done : (name : Name) (bytes : List ℕ) (old new : Disk) (result : Result (Unit {0}) RecordErr) → OnOk result (AppendsSynced name bytes old new) → (IsErrOf result DiskFailed → Tears name bytes old new)
+    → (IsErrOf result OutOfMemory → DoneOrNot (Appends name bytes bytes) old new) → DoneOrNot (AppendsPartly name bytes) old new
+partly_done name bytes old new (Ok x) done torn memory = inr (partly_synced name bytes old new done)
+partly_done name bytes old new (Err DiskFailed) done torn memory = inr (partly_torn name bytes old new (torn refl))
+partly_done name bytes old new (Err OutOfMemory) done torn memory = elim (memory refl) [
   | inl same ↦ inl same
   | inr a ↦ inr (partly_handed name bytes old new bytes a)
-]
-partly_done name bytes old new (Err (Corrupt file place)) done torn memory cause = elim cause [
-  | inl is ↦ absurd (cc is)
-  | inr is ↦ absurd (cc is)
 ]
 
 -- so it is behind the making of the file
@@ -116,16 +114,13 @@ pub made_then : (name : Name) (bytes : List ℕ) (old mid new : Disk) → Create
 made_then name bytes old mid new made (inl same) = let P : Disk → Type 0 = λ d. MakesPartly name bytes old d in subst P (sym same) (made_empty name bytes old mid made)
 made_then name bytes old mid new made (inr a) = made_partly name bytes old mid new made a
 
-pub asks_more : (first second third most : ℕ) → second ≡ one_more first → AsksUpTo most second third → AsksUpTo (most + 1) first third
+asks_more : (first second third most : ℕ) → second ≡ one_more first → AsksUpTo most second third → AsksUpTo (most + 1) first third
 asks_more first second third most once a = (a.0 + 1, omega (arith, a.1), omega (arith, a.2), let e : third ≡ more a.0 second = a.3 in let goal : third ≡ more (a.0 + 1) first = omega arith in goal)
 
-pub on_err : {T E : Type 0} (result : Result T E) (P : Type 0) → P → OnErr result P
-on_err (Ok x) P p = tt
-on_err (Err e) P p = p
-
-pub on_ok : {E : Type 0} (result : Result (Unit {0}) E) (P : Type 0) → (result ≡ Ok tt → P) → OnOk result P
-on_ok (Ok x) P p = p refl
-on_ok (Err e) P p = tt
+-- one call, and those of an append and a sync, whether the writer has failed by then or not
+pub asks_some : (first second third : ℕ) (failed : Bool) → second ≡ one_more first → (failed ≡ true → AsksUpTo 2 second third) → (failed ≡ false → third ≡ second) → AsksUpTo 3 first third
+asks_some first second third true once asked same = asks_more first second third 2 once (asked refl)
+asks_some first second third false once asked same = (1, omega arith, omega arith, same refl ∙ once)
 
 -- the making of a file and its bytes, by other names for the same
 pub made_outcome : (name bytes called again given : List ℕ) (old mid new : Disk) → called ≡ name → again ≡ name → given ≡ bytes → Creates called old mid → DoneOrNot (AppendsPartly again given) mid new → MakesPartly name bytes old new

@@ -3,7 +3,7 @@ use Rattle.std.proofs.Common.{◌≡◌, ◌⊎◌, inl, inr, ⊎_elim, ℕ, Lis
 use Rattle.bl_site.specs.Disk.{Name, Disk, Cut, IsCut, MayLeave}
 use Rattle.bl_site.specs.Calls.{Creates, Appends, AppendsAny, Syncs, Frays, DoneOrNot, MayDuring, InDoubt, FollowsFile, Elapses}
 use Rattle.bl_records.specs.Writing.{MakesPartly, AppendsPartly, AppendsInDoubt}
-use Rattle.bl_manifest.proofs.WritingLemmas.{appended_synced, sync_torn, partly_handed, partly_synced, partly_torn, made_empty, made_then}
+use Rattle.bl_records.proofs.WritingLemmas.{appended_synced, sync_torn, partly_handed, partly_synced, partly_torn, made_empty, made_then}
 
 module _ {D : Type 0} (clock : D → ℕ) (left_since : D → ℕ → Cut → Type 0) where
   pub elapses_none : (a : D) (during : Cut → Type 0) → Elapses (clock a) (clock a) (left_since a) (left_since a) during
