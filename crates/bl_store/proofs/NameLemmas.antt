@@ -189,10 +189,18 @@ module _ {X S : Type 0} (now : X → S) (f : S → Name) where
       → First i names (option_map (λ y. f (now y)) first) → First (i + 1) names (option_map (λ y. f (now y)) first)
   one_passed i names x first at not so_far = passed i names (f x) (option_map (λ y. f (now y)) first) at not so_far
 
-  pub all_passed : (i n : ℕ) (names : List Name) (first : Option X) → i ≡ n → First i names (option_map (λ y. f (now y)) first)
-      → MatchOption first ((name : Name) → IsWithin n names name → IsOther name → ⊥) (λ m. IsLeastOther n names (f (now m)))
-  all_passed i n names None same none = let P : ℕ → Type 0 = λ k. (name : Name) → IsWithin k names name → IsOther name → ⊥ in subst P same none
-  all_passed i n names (Some m) same least = let P : ℕ → Type 0 = λ k. IsLeastOther k names (f (now m)) in subst P same least
+  pub none_passed : (i n : ℕ) (names : List Name) (first : Option X) → i ≡ n → first ≡ None → First i names (option_map (λ y. f (now y)) first)
+      → (name : Name) → IsWithin n names name → IsOther name → ⊥
+  none_passed i n names first same is so_far =
+      let P : Option X → Type 0 = λ o. First i names (option_map (λ y. f (now y)) o) in
+      let Q : ℕ → Type 0 = λ k. (name : Name) → IsWithin k names name → IsOther name → ⊥ in
+      subst Q same (subst P is so_far)
+
+  pub least_passed : (i n : ℕ) (names : List Name) (first : Option X) (m : X) → i ≡ n → first ≡ Some m → First i names (option_map (λ y. f (now y)) first) → IsLeastOther n names (f (now m))
+  least_passed i n names first m same is so_far =
+      let P : Option X → Type 0 = λ o. First i names (option_map (λ y. f (now y)) o) in
+      let Q : ℕ → Type 0 = λ k. IsLeastOther k names (f (now m)) in
+      subst Q same (subst P is so_far)
 
 pub number_next : NamesOne → (i : ℕ) (names : List Name) (name : Name) (keys next : List ℕ) → NameAt i names name → TakesName name keys next → AreLogNumbers i names keys → AreLogNumbers (i + 1) names next
 number_next law i names name keys next at takes logs = elim takes [

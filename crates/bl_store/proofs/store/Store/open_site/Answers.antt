@@ -72,7 +72,7 @@ returns-in_err-wal-clause-before g c = λ shown.
     record { only = found.only shown; same = found.same shown; bound = found.bound; all = found.replayed shown; synced = found.synced shown } in
     let is : IsNumber c.in_ok-number.number = (omega (arith, next.0), next.1) in
     made_before site.clock site.left_since site.disk site.told site.may_be (folder_of (site.disk old)) c.in_ok-number.number old mid c.create.new.site
-    (g.met.S.Site.counts_now shown mid) (c.read_logs.ensures.told shown) is (is_next (folder_of (site.disk old)) (map_in m.map.entries) m.last m.greatest c.in_ok-number.number read.all next.0)
+    (g.met.S.Site.counts_now shown mid) (c.read_logs.ensures.tells_nothing.told shown) is (is_next (folder_of (site.disk old)) (map_in m.map.entries) m.last m.greatest c.in_ok-number.number read.all next.0)
     (c.read_logs.ensures.before shown) (c.create.ensures.time shown)
 
 pub returns-in_err-wal-clause-cuts : goal.returns-in_err-wal-clause-cuts
@@ -87,7 +87,7 @@ returns-in_err-wal-clause-cuts g c = λ shown sure log older own synced last who
     record { only = found.only shown; same = found.same shown; bound = found.bound; all = found.replayed shown; synced = found.synced shown } in
     made_stands site.clock site.left_since site.disk site.told site.may_be c.cuts_stand.ensures old (λ other. g.met.S.Site.only shown old other sure) log older own synced last on
     c.names_one.ensures c.batches_are_once.ensures c.stores_stand.ensures mid c.create.new.site (map_in m.map.entries) m.last m.greatest c.in_ok-number.number whole
-    (g.met.S.Site.counts_now shown mid) (c.read_logs.ensures.told shown) (λ other. g.met.S.Site.only shown mid other (c.read_logs.ensures.certain shown sure)) read next.0 next.1
+    (g.met.S.Site.counts_now shown mid) (c.read_logs.ensures.tells_nothing.told shown) (λ other. g.met.S.Site.only shown mid other (c.read_logs.ensures.certain shown sure)) read next.0 next.1
     (c.read_logs.ensures.cuts shown (stands_reads log older own synced last (site.disk old) whole on)) (c.create.ensures.time shown)
 
 pub returns-in_err-wal-clause-others : goal.returns-in_err-wal-clause-others
@@ -123,7 +123,7 @@ returns-clause-before g c = λ shown.
     record { only = found.only shown; same = found.same shown; bound = found.bound; all = found.replayed shown; synced = found.synced shown } in
     let is : IsNumber c.in_ok-number.number = (omega (arith, next.0), next.1) in
     made_before site.clock site.left_since site.disk site.told site.may_be (folder_of (site.disk old)) c.in_ok-number.number old mid c.create.new.site
-    (g.met.S.Site.counts_now shown mid) (c.read_logs.ensures.told shown) is (is_next (folder_of (site.disk old)) (map_in m.map.entries) m.last m.greatest c.in_ok-number.number read.all next.0)
+    (g.met.S.Site.counts_now shown mid) (c.read_logs.ensures.tells_nothing.told shown) is (is_next (folder_of (site.disk old)) (map_in m.map.entries) m.last m.greatest c.in_ok-number.number read.all next.0)
     (c.read_logs.ensures.before shown) (c.create.ensures.time shown)
 
 pub returns-clause-cuts : goal.returns-clause-cuts
@@ -138,7 +138,7 @@ returns-clause-cuts g c = λ shown sure log older own synced last whole on.
     record { only = found.only shown; same = found.same shown; bound = found.bound; all = found.replayed shown; synced = found.synced shown } in
     made_stands site.clock site.left_since site.disk site.told site.may_be c.cuts_stand.ensures old (λ other. g.met.S.Site.only shown old other sure) log older own synced last on
     c.names_one.ensures c.batches_are_once.ensures c.stores_stand.ensures mid c.create.new.site (map_in m.map.entries) m.last m.greatest c.in_ok-number.number whole
-    (g.met.S.Site.counts_now shown mid) (c.read_logs.ensures.told shown) (λ other. g.met.S.Site.only shown mid other (c.read_logs.ensures.certain shown sure)) read next.0 next.1
+    (g.met.S.Site.counts_now shown mid) (c.read_logs.ensures.tells_nothing.told shown) (λ other. g.met.S.Site.only shown mid other (c.read_logs.ensures.certain shown sure)) read next.0 next.1
     (c.read_logs.ensures.cuts shown (stands_reads log older own synced last (site.disk old) whole on)) (c.create.ensures.time shown)
 
 pub returns-in_err-memory-clause-made : goal.returns-in_err-memory-clause-made
@@ -192,7 +192,7 @@ returns-in_err-wal-clause-behind g c = λ shown sure.
     let read : WasRead (folder_of (site.disk old)) (site.disk mid) (map_in m.map.entries) m.last m.greatest =
     record { only = found.only shown; same = found.same shown; bound = found.bound; all = found.replayed shown; synced = found.synced shown } in
     made_behind site.clock site.left_since site.disk site.told site.may_be number old mid c.create.new.site (c.read_logs.ensures.no_file shown) (c.read_logs.ensures.no_new shown sure) (c.create.ensures.time shown)
-    (λ other. g.met.S.Site.only shown mid other (c.read_logs.ensures.certain shown sure)) (c.read_logs.ensures.told shown)
+    (λ other. g.met.S.Site.only shown mid other (c.read_logs.ensures.certain shown sure)) (c.read_logs.ensures.tells_nothing.told shown)
     (λ after made. is_opened c.names_one.ensures (folder_of (site.disk old)) (site.disk mid) after (map_in m.map.entries) m.last m.greatest number read c.in_ok-number.ensures.next.0 c.in_ok-number.ensures.next.1 made)
 
 pub returns-clause-behind : goal.returns-clause-behind
@@ -206,5 +206,5 @@ returns-clause-behind g c = λ shown sure.
     let read : WasRead (folder_of (site.disk old)) (site.disk mid) (map_in m.map.entries) m.last m.greatest =
     record { only = found.only shown; same = found.same shown; bound = found.bound; all = found.replayed shown; synced = found.synced shown } in
     made_behind site.clock site.left_since site.disk site.told site.may_be number old mid c.create.new.site (c.read_logs.ensures.no_file shown) (c.read_logs.ensures.no_new shown sure) (c.create.ensures.time shown)
-    (λ other. g.met.S.Site.only shown mid other (c.read_logs.ensures.certain shown sure)) (c.read_logs.ensures.told shown)
+    (λ other. g.met.S.Site.only shown mid other (c.read_logs.ensures.certain shown sure)) (c.read_logs.ensures.tells_nothing.told shown)
     (λ after made. is_opened c.names_one.ensures (folder_of (site.disk old)) (site.disk mid) after (map_in m.map.entries) m.last m.greatest number read c.in_ok-number.ensures.next.0 c.in_ok-number.ensures.next.1 made)
