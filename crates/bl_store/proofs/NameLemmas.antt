@@ -7,10 +7,10 @@ use Rattle.std.specs.Option.{option_map}
 use Rattle.std.specs.Ordering.{is_lt, nat_cmp}
 use Rattle.std.specs.Cmp.{tied_itself}
 use Rattle.std.specs.Cmp.Lexicographic.{nat_list_cmp_total}
-use Rattle.std.specs.declared.cmp.Ordering.{Ordering}
 use Rattle.std.specs.BTreeMap.{is_at}
 use Rattle.std.specs.declared.cmp.Ordering.TheVariants.{Less, Equal, Greater}
 use Rattle.bl_code.specs.Order.{bytes_cmp, bytes_lt}
+use Rattle.bl_code.proofs.Basics.{less_is}
 use Rattle.bl_site.specs.Disk.{Name, Folder}
 use Rattle.bl_names.specs.declared.name.FileName.{FileName}
 use Rattle.bl_names.specs.declared.name.FileName.TheVariants.{Current, Manifest, Log, Table, Blob, Temp}
@@ -82,14 +82,9 @@ passed i names name (Some m) at not least = record {
 irreflexive : (a : List ℕ) → bytes_lt a a ≡ false
 irreflexive a = ap is_lt (tied_itself nat_list_cmp_total a)
 
-is_less : (o : Ordering) → is_lt o ≡ true → o ≡ Less
-is_less Less t = refl
-is_less Equal t = cc t
-is_less Greater t = cc t
-
 less_then : (a b c : List ℕ) → bytes_lt a b ≡ true → bytes_lt c b ≡ false → bytes_lt c a ≡ false
 less_then a b c t f = elim (bytes_cmp c a) as (λ o. bytes_cmp c a ≡ o → is_lt o ≡ false) [
-  | Less ↦ λ e. let less : bytes_lt c b ≡ true = ap is_lt (nat_list_cmp_total.trans c a b e (is_less (bytes_cmp a b) t)) in cc (less, f)
+  | Less ↦ λ e. let less : bytes_lt c b ≡ true = ap is_lt (nat_list_cmp_total.trans c a b e (less_is (bytes_cmp a b) t)) in cc (less, f)
   | Equal ↦ λ e. refl
   | Greater ↦ λ e. refl
 ] refl

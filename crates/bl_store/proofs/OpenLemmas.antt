@@ -1,20 +1,17 @@
 -- What an opening found.
-use Rattle.std.proofs.Common.{◌≡◌, ◌↔◌, ℕ, ◌+◌, ◌-◌, ◌^◌, ◌<◌, List, length, map, IsSome, Contains, All, sym, ap, subst, arith, ◌⊎◌, inl, inr}
+use Rattle.std.proofs.Common.{◌≡◌, ◌↔◌, ℕ, ◌+◌, ◌-◌, ◌^◌, ◌<◌, List, length, map, IsSome, Contains, sym, ap, subst, arith, ◌⊎◌, inl, inr}
 use Rattle.std.proofs.lemmas.Bool.{cases_lt}
 use Rattle.std.specs.Prelude.{max}
 use Rattle.std.proofs.lemmas.List.{length-map}
-use Rattle.std.specs.Ordering.{nat_cmp}
-use Rattle.std.specs.List.Sorted.{IsStrictlySortedBy}
-use Rattle.bl_site.specs.Disk.{Name, Folder, Disk, folder_of}
-use Rattle.bl_names.specs.Names.{IsNumber}
+use Rattle.bl_site.specs.Disk.{Name, File, Folder, Disk, folder_of}
 use Rattle.bl_entry.specs.Revisions.{Map}
 use Rattle.bl_wal.specs.LogFile.{log_name}
 use Rattle.bl_wal.specs.Held.{Batches}
 use Rattle.bl_store.specs.Logs.{bytes_in}
 use Rattle.bl_store.specs.Folders.{HasOnlyLogs, Stands}
-use Rattle.bl_store.specs.Listing.{IsWithin, AreLogNumbers, AreLogsAbove}
+use Rattle.bl_store.specs.Listing.{IsWithin}
 use Rattle.bl_store.specs.Replaying.{HasAll}
-use Rattle.bl_store.proofs.FolderLemmas.{there_reads, reads_there}
+use Rattle.bl_store.proofs.FolderLemmas.{there_reads, was_some}
 
 -- the names listed are those that are there
 pub listed : {X : Type 0} (f : X → Name) (disk : Disk) (items names : List X) → names ≡ items → ((name : Name) → Contains (map f items) name ↔ IsSome (disk name))
@@ -23,7 +20,7 @@ listed {X = X} f disk items names same value =
     let P : List X → Type 0 = λ ns. (name : Name) → IsWithin (length ns) (map f ns) name ↔ IsSome (folder_of disk name) in
     subst P (sym same) (λ name. (
       λ w. there_reads (disk name) ((value name).0 (w.0, omega (arith, w.1, length-map items f), w.2)),
-      λ some. let c = (value name).1 (reads_there (disk name) some) in (c.0, omega (arith, c.1, length-map items f), c.2),
+      λ some. let c = (value name).1 (was_some (λ (file : File). file.read) (disk name) some) in (c.0, omega (arith, c.1, length-map items f), c.2),
     ))
 
 -- no number is left

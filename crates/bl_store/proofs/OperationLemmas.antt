@@ -1,5 +1,5 @@
 -- The operations of a batch, one after another.
-use Rattle.std.proofs.Common.{◌≡◌, ℕ, zero, suc, ◌+◌, ◌<◌, List, [], ◌∷◌, length, take, get_or, refl, sym, ◌∙◌, ap, arith, add-one}
+use Rattle.std.proofs.Common.{◌≡◌, ℕ, zero, suc, ◌+◌, ◌<◌, List, [], ◌∷◌, length, take, get_or, sym, ◌∙◌, ap, arith, add-one}
 use Rattle.bl_entry.specs.Revisions.{Map, after_put, after_operations}
 use Rattle.bl_entry.specs.declared.batch.Operation.{Operation}
 

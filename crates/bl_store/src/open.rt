@@ -10,7 +10,7 @@ ghost use Rattle.bl_wal.specs.LogFile.{log_name};
 ghost use Rattle.bl_store.specs.Folders.{HasOnlyLogs, IsFirstOther};
 ghost use Rattle.bl_store.specs.Damage.{BreaksAt, IsDamaged};
 ghost use Rattle.bl_store.specs.Listing.{AreLogsAbove};
-ghost use Rattle.bl_store.specs.Replaying.{HasReplayed, HasAll};
+ghost use Rattle.bl_store.specs.Replaying.{HasReplayed, HasAll, WasRead};
 ghost use Rattle.bl_store.specs.Stored.{map_in, IsSynced, KeepsOthers, MakesNoFile};
 ghost use Rattle.bl_store.specs.Cuts.{LeavesFound, AreReadAsWritten, FindsNoNewFile};
 ghost use Rattle.bl_store.specs.Causes.{IsReading, IsUntouched, IsSyncing};
@@ -143,13 +143,10 @@ fn replay_logs<S: Site>(alloc: Global, site: &mut S, numbers: &[u64]) -> Result<
 
 /// The logs of the folder are synced, in order of number, and replayed.
 pub(crate) fn read_logs<S: Site>(alloc: Global, site: &mut S) -> Result<Memory, StoreErr>
-    ensures only { S.shows → OnOk result (HasOnlyLogs (folder_of (S.disk site.old))) }
-    ensures same { S.shows → OnOk result (folder_of (S.disk site.new) ≡ folder_of (S.disk site.old)) }
-    ensures synced { S.shows → OnOk result ((number : ℕ) → IsNumber number → IsSynced (S.disk site.new (log_name number))) }
+    ensures read { S.shows → IfOk result (λ m. WasRead (folder_of (S.disk site.old)) (S.disk site.new) (map_in m.map.entries) m.last m.greatest) }
     ensures others { S.shows → KeepsOthers (S.disk site.old) (S.disk site.new) }
     ensures no_file { S.shows → MakesNoFile (S.disk site.old) (S.disk site.new) }
     ensures no_new { S.shows → S.certain site.old → LeavesOnly S.clock S.left_since site.old site.new (FindsNoNewFile (S.disk site.old)) }
-    ensures replayed { S.shows → IfOk result (λ m. HasAll (folder_of (S.disk site.old)) (map_in m.map.entries) m.last m.greatest) }
     ensures bound { IfOk result (λ m. m.greatest < 10 ^ 15) }
     ensures corrupt { S.shows → (name : Name) (place : ℕ) → result ≡ Err (StoreErr.Corrupt name place) → IsDamaged (folder_of (S.disk site.old)) name place }
     ensures refused { S.shows → IfErr result (λ e. IsUntouched e → folder_of (S.disk site.new) ≡ folder_of (S.disk site.old)) }

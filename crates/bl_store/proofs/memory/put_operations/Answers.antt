@@ -1,4 +1,4 @@
-use Rattle.std.proofs.Common.{◌<◌, length, ap, ◌∙◌, arith}
+use Rattle.std.proofs.Common.{ap, ◌∙◌, arith}
 use Rattle.std.proofs.lemmas.List.{take_all}
 use Rattle.bl_entry.specs.Revisions.{after_put, after_operations}
 use Rattle.bl_entry.specs.declared.batch.Operation.{Operation}

@@ -1,4 +1,4 @@
-use Rattle.std.proofs.Common.{map, string_bytes, length, sym, subst, ap, arith, ◌≡◌, List, ℕ, true, inl, inr, Err}
+use Rattle.std.proofs.Common.{map, string_bytes, length, sym, subst, arith, ◌≡◌, List, ℕ, true, inl, inr}
 use Rattle.std.proofs.lemmas.Result.{IfOk-weaker}
 use Rattle.bl_site.specs.Disk.{Name}
 use Rattle.bl_store.specs.Folders.{IsOther}

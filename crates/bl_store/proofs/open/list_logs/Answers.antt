@@ -1,4 +1,4 @@
-use Rattle.std.proofs.Common.{map, string_bytes, length, refl}
+use Rattle.std.proofs.Common.{map, string_bytes, length}
 use Rattle.std.proofs.lemmas.Result.{IfOk-weaker}
 use Rattle.bl_site.specs.Disk.{folder_of}
 use Rattle.bl_store.proofs.NameLemmas.{first_there, none_other}

@@ -1,5 +1,9 @@
-use Rattle.std.proofs.Common.{sym, subst}
-use Rattle.bl_site.specs.Disk.{Disk, MayLeave}
+use Rattle.std.proofs.Common.{◌≡◌, sym, ◌∙◌, ap, subst}
+use Rattle.std.proofs.lemmas.Result.{IfOk-weaker}
+use Rattle.bl_site.specs.Disk.{Disk, Folder, MayLeave, folder_of}
+use Rattle.bl_wal.specs.LogFile.{log_name}
+use Rattle.bl_store.specs.Replaying.{HasAll}
+use Rattle.bl_store.specs.Stored.{map_in, IsSynced}
 use Rattle.bl_store.specs.Cuts.{LeavesFound, AreReadAsWritten}
 use Rattle.bl_store.proofs.BehindLemmas.{reads_no_new, then_no_new}
 use Rattle.bl_store.proofs.CutLemmas.{all_found, then_left, then_found}
@@ -104,3 +108,19 @@ returns-clause-tells_nothing g c =
     let read = c.replay_logs.new.site in
     silent_on site old listed read (reading_is_silent site old listed c.list_logs.ensures.quiet)
     (silent_on site listed synced read c.sync_logs.ensures.tells_nothing (reading_is_silent site synced read c.replay_logs.ensures.quiet))
+
+pub returns-clause-read : goal.returns-clause-read
+returns-clause-read g c = λ shown.
+    let disk = g.S.Site.disk in
+    let synced = disk c.sync_logs.new.site in
+    let new = disk c.replay_logs.new.site in
+    let same : folder_of synced ≡ folder_of (disk c.args.site.now) = c.in_ok-sync_logs.ensures.same shown ∙ ap folder_of (c.list_logs.ensures.quiet.stays shown).same in
+    let read_same : new ≡ synced = (c.replay_logs.ensures.quiet.stays shown).same in
+    IfOk-weaker c.replay_logs.result _ _ (λ m all.
+    let P : Folder → Type 0 = λ f. HasAll f (map_in m.map.entries) m.last m.greatest in
+    record {
+      only = c.in_ok-numbers.ensures.only shown;
+      same = ap folder_of read_same ∙ same;
+      all = subst P same all;
+      synced = λ number is. subst (λ (d : Disk). IsSynced (d (log_name number))) (sym read_same) (c.in_ok-sync_logs.ensures.synced shown number is);
+    }) (c.replay_logs.ensures.replayed shown)

@@ -1,4 +1,4 @@
-use Rattle.std.proofs.Common.{◌≡◌, ◌+◌, ◌-◌, ◌<◌, ◌∷◌, get_or, drop, length, ap, sym, ◌∙◌, subst, arith, inl, inr, Err, refl}
+use Rattle.std.proofs.Common.{◌≡◌, ◌+◌, ◌-◌, ◌<◌, ◌∷◌, get_or, drop, length, ap, sym, subst, arith, inl, inr, Err, refl}
 use Rattle.std.proofs.lemmas.Result.{err_from_is_err_and}
 use Rattle.bl_site.specs.Disk.{Folder, folder_of}
 use Rattle.bl_store.specs.declared.error.StoreErr.TheVariants.{Corrupt}

@@ -1,9 +1,9 @@
 use Rattle.std.proofs.Common.{◌≡◌, get_or, ap, sym, ◌∙◌, subst, arith, refl, inl, inr, IsSome}
 use Rattle.std.proofs.lemmas.Bool.{cases_lt}
-use Rattle.bl_site.specs.Disk.{Folder, MayLeave}
+use Rattle.bl_site.specs.Disk.{File, Folder, MayLeave}
 use Rattle.bl_site.proofs.Quiet.{reads_nothing, reading_is_silent, silent_on}
 use Rattle.bl_wal.specs.LogFile.{log_name}
-use Rattle.bl_store.proofs.FolderLemmas.{sync_keeps, sync_syncs, reads_there, at_place, all_synced}
+use Rattle.bl_store.proofs.FolderLemmas.{sync_keeps, sync_syncs, was_some, at_place, all_synced}
 use Rattle.bl_store.proofs.CutLemmas.{no_call, all_found, then_left, then_found, sync_reads}
 use Rattle.bl_store.proofs.BehindLemmas.{no_call_no_new, then_no_new}
 use Rattle.bl_store.proofs.OtherLemmas.{others_then, then_makes_no_file}
@@ -14,7 +14,7 @@ sync_log-requires-clause-there g c = λ shown.
     let number = get_or c.args.numbers.now c.loop-number.number-index 0 in
     let P : Folder → Type 0 = λ f. IsSome (f (log_name number)) in
     let each = at_place _ c.args.numbers.now c.loop-number.number-index (omega (arith, c.loop-number-test.true)) (c.requires.logs shown).each in
-    reads_there (g.S.Site.disk c.loop-number.site (log_name number)) (subst P (sym (c.loop-number.invariant.same shown)) each.2)
+    was_some (λ (file : File). file.read) (g.S.Site.disk c.loop-number.site (log_name number)) (subst P (sym (c.loop-number.invariant.same shown)) each.2)
 
 pub loop-number-preserved : goal.loop-number-preserved
 loop-number-preserved g c =
