@@ -6,6 +6,7 @@ use Rattle.std.specs.Prelude.{max}
 use Rattle.std.specs.Option.{option_map}
 use Rattle.bl_site.specs.Disk.{Name, File, Folder, Disk, Cut, IsLeft, IsImage, MayLeave, folder_of}
 use Rattle.bl_site.specs.Calls.{Creates, MayDuring, Elapses, LeavesOnly}
+use Rattle.bl_site.specs.declared.site.Site.{Ghosts}
 use Rattle.bl_site.proofs.Moments.{goes_on, widened, cut_of_only}
 use Rattle.bl_site.proofs.Images.{left_at, left_but, whole_remnant}
 use Rattle.bl_names.specs.Names.{IsNumber, NamesOne}
@@ -75,30 +76,30 @@ while_made folder number may_be told is next c leaves =
     })
     leaves.possible
 
-module _ {D : Type 0} (clock : D → ℕ) (left_since : D → ℕ → Cut → Type 0) (disk : D → Disk) (told : D → List ℕ) (may_be : D → Disk → Type 0) where
+module _ {D : Type 0} (g : Ghosts D) where
   -- the logs were listed, synced and replayed
-  pub read_before : (folder : Folder) (old new : D) → LeavesOnly clock left_since old new (LeavesFound (may_be old) (told old)) → LeavesOnly clock left_since old new (BeforeBarrier folder (may_be old) (told old))
+  pub read_before : (folder : Folder) (old new : D) → LeavesOnly g.clock g.left_since old new (LeavesFound (g.may_be old) (g.told old)) → LeavesOnly g.clock g.left_since old new (BeforeBarrier folder (g.may_be old) (g.told old))
   read_before folder old new leaves =
-      widened clock left_since old new (LeavesFound (may_be old) (told old)) (BeforeBarrier folder (may_be old) (told old))
+      widened g.clock g.left_since old new (LeavesFound (g.may_be old) (g.told old)) (BeforeBarrier folder (g.may_be old) (g.told old))
       (λ c finds. record { told_is = finds.told_is; found = c.folder; was = finds.was; perhaps = inl refl }) leaves
 
-  barrier_then : (folder : Folder) (old mid : D) → CountsNow clock left_since told may_be mid → told mid ≡ told old → LeavesOnly clock left_since old mid (LeavesFound (may_be old) (told old))
-      → (c : Cut) → BeforeBarrier folder (may_be mid) (told mid) c → BeforeBarrier folder (may_be old) (told old) c
+  barrier_then : (folder : Folder) (old mid : D) → CountsNow g mid → g.told mid ≡ g.told old → LeavesOnly g.clock g.left_since old mid (LeavesFound (g.may_be old) (g.told old))
+      → (c : Cut) → BeforeBarrier folder (g.may_be mid) (g.told mid) c → BeforeBarrier folder (g.may_be old) (g.told old) c
   barrier_then folder old mid counts same first c b = record {
     told_is = b.told_is ∙ same;
     found = b.found;
-    was = (found_then clock left_since told may_be old mid counts same first (cut_found b.found (told mid) b.was.0) (record { told_is = refl; was = b.was })).was;
+    was = (found_then g old mid counts same first (cut_found b.found (g.told mid) b.was.0) (record { told_is = refl; was = b.was })).was;
     perhaps = b.perhaps;
   }
 
   -- and then the next log was made
-  pub made_before : (folder : Folder) (number : ℕ) (old mid new : D) → CountsNow clock left_since told may_be mid → told mid ≡ told old → IsNumber number → IsNext folder number
-      → LeavesOnly clock left_since old mid (LeavesFound (may_be old) (told old))
-      → Elapses (clock mid) (clock new) (left_since mid) (left_since new) (MayLeave (MayDuring (Creates (log_name number)) (may_be mid)) (told mid))
-      → LeavesOnly clock left_since old new (BeforeBarrier folder (may_be old) (told old))
+  pub made_before : (folder : Folder) (number : ℕ) (old mid new : D) → CountsNow g mid → g.told mid ≡ g.told old → IsNumber number → IsNext folder number
+      → LeavesOnly g.clock g.left_since old mid (LeavesFound (g.may_be old) (g.told old))
+      → Elapses (g.clock mid) (g.clock new) (g.left_since mid) (g.left_since new) (MayLeave (MayDuring (Creates (log_name number)) (g.may_be mid)) (g.told mid))
+      → LeavesOnly g.clock g.left_since old new (BeforeBarrier folder (g.may_be old) (g.told old))
   made_before folder number old mid new counts same is next first time =
-      goes_on clock left_since old mid new (BeforeBarrier folder (may_be old) (told old)) (MayLeave (MayDuring (Creates (log_name number)) (may_be mid)) (told mid)) (read_before folder old mid first) time
-      (λ c leaves. barrier_then folder old mid counts same first c (while_made folder number (may_be mid) (told mid) is next c leaves))
+      goes_on g.clock g.left_since old mid new (BeforeBarrier folder (g.may_be old) (g.told old)) (MayLeave (MayDuring (Creates (log_name number)) (g.may_be mid)) (g.told mid)) (read_before folder old mid first) time
+      (λ c leaves. barrier_then folder old mid counts same first c (while_made folder number (g.may_be mid) (g.told mid) is next c leaves))
 
 -- what stands reads as it was written
 pub stands_reads : (log : LogFile) (older own : List Batch) (synced last : ℕ) (disk : Disk) → log.failed ≡ false → StandsOn log older own synced last disk → AreReadAsWritten disk
@@ -127,35 +128,35 @@ all_there older own batches synced told c same within leaves = record {
       (length own, within, omega arith, (s.3.0, subst P are s.3.1));
 }
 
-module _ {D : Type 0} (clock : D → ℕ) (left_since : D → ℕ → Cut → Type 0) (disk : D → Disk) (told : D → List ℕ) (may_be : D → Disk → Type 0) (stand : CutsStand)
-    (old : D) (only : (other : Disk) → may_be old other → other ≡ disk old)
-    (log : LogFile) (older own : List Batch) (synced last : ℕ) (on : StandsOn log older own synced last (disk old)) where
+module _ {D : Type 0} (g : Ghosts D) (stand : CutsStand)
+    (old : D) (only : (other : Disk) → g.may_be old other → other ≡ g.disk old)
+    (log : LogFile) (older own : List Batch) (synced last : ℕ) (on : StandsOn log older own synced last (g.disk old)) where
   -- a cut of the disk on which a store stands
-  stands_here : (c : Cut) → MayLeave (may_be old) (told old) c → LeavesFirst older own synced (told old) c
-  stands_here c leaves = stand log older own synced last (disk old) (told old) c on (cut_of_only (may_be old) (disk old) (told old) c only leaves)
+  stands_here : (c : Cut) → MayLeave (g.may_be old) (g.told old) c → LeavesFirst older own synced (g.told old) c
+  stands_here c leaves = stand log older own synced last (g.disk old) (g.told old) c on (cut_of_only (g.may_be old) (g.disk old) (g.told old) c only leaves)
 
   -- its logs were listed, synced and replayed
-  pub read_stands : (new : D) → LeavesOnly clock left_since old new (MayLeave (may_be old) (told old)) → LeavesOnly clock left_since old new (LeavesFirst older own synced (told old))
-  read_stands new leaves = widened clock left_since old new (MayLeave (may_be old) (told old)) (LeavesFirst older own synced (told old)) stands_here leaves
+  pub read_stands : (new : D) → LeavesOnly g.clock g.left_since old new (MayLeave (g.may_be old) (g.told old)) → LeavesOnly g.clock g.left_since old new (LeavesFirst older own synced (g.told old))
+  read_stands new leaves = widened g.clock g.left_since old new (MayLeave (g.may_be old) (g.told old)) (LeavesFirst older own synced (g.told old)) stands_here leaves
 
   -- and then the next log was made
-  pub made_stands : NamesOne → BatchesAreOnce → StoresStand → (mid new : D) (now : Map) (last_read greatest number : ℕ) → log.failed ≡ false → CountsNow clock left_since told may_be mid → told mid ≡ told old
-      → ((other : Disk) → may_be mid other → other ≡ disk mid) → WasRead (folder_of (disk old)) (disk mid) now last_read greatest → number ≡ max (greatest + 1) 2 → number < 10 ^ 15
-      → LeavesOnly clock left_since old mid (MayLeave (may_be old) (told old))
-      → Elapses (clock mid) (clock new) (left_since mid) (left_since new) (MayLeave (MayDuring (Creates (log_name number)) (may_be mid)) (told mid))
-      → LeavesOnly clock left_since old new (LeavesFirst older own synced (told old))
+  pub made_stands : NamesOne → BatchesAreOnce → StoresStand → (mid new : D) (now : Map) (last_read greatest number : ℕ) → log.failed ≡ false → CountsNow g mid → g.told mid ≡ g.told old
+      → ((other : Disk) → g.may_be mid other → other ≡ g.disk mid) → WasRead (folder_of (g.disk old)) (g.disk mid) now last_read greatest → number ≡ max (greatest + 1) 2 → number < 10 ^ 15
+      → LeavesOnly g.clock g.left_since old mid (MayLeave (g.may_be old) (g.told old))
+      → Elapses (g.clock mid) (g.clock new) (g.left_since mid) (g.left_since new) (MayLeave (MayDuring (Creates (log_name number)) (g.may_be mid)) (g.told mid))
+      → LeavesOnly g.clock g.left_since old new (LeavesFirst older own synced (g.told old))
   made_stands law are_once stores mid new now last_read greatest number whole counts same only_mid read is less first time =
-      let P = LeavesFirst older own synced (told old) in
+      let P = LeavesFirst older own synced (g.told old) in
       let T : List ℕ → Cut → Type 0 = λ t c. LeavesFirst older own synced t c in
       let so_far = read_stands mid first in
       let store : Stored = record { log = new_log number; last = last_read; now = now; broken = false } in
-      goes_on clock left_since old mid new P (MayLeave (MayDuring (Creates (log_name number)) (may_be mid)) (told mid)) so_far time
+      goes_on g.clock g.left_since old mid new P (MayLeave (MayDuring (Creates (log_name number)) (g.may_be mid)) (g.told mid)) so_far time
       (λ c leaves. ⊎_elim
-      (λ was. at_end clock left_since told may_be old mid P counts so_far c (record { disk = leaves.disk; possible = was; is_cut = leaves.is_cut }))
+      (λ was. at_end g old mid P counts so_far c (record { disk = leaves.disk; possible = was; is_cut = leaves.is_cut }))
       (λ from.
       let made = subst (λ (d : Disk). Creates (log_name number) d leaves.disk) (only_mid from.0 from.1) from.2 in
-      let opened = opens law (folder_of (disk old)) (disk mid) leaves.disk store greatest number read is less made refl in
-      let once = are_once (folder_of (disk old)) opened.batches (older ++ own) last_read last opened.had (stores log older own synced last (disk old) whole on).have in
+      let opened = opens law (folder_of (g.disk old)) (g.disk mid) leaves.disk store greatest number read is less made refl in
+      let once = are_once (folder_of (g.disk old)) opened.batches (older ++ own) last_read last opened.had (stores log older own synced last (g.disk old) whole on).have in
       subst (λ (t : List ℕ). T t c) same
-      (all_there older own opened.batches synced (told mid) c once.0 (within_of record_of own synced on.holds.within) (stand store.log opened.batches [] 0 last_read leaves.disk (told mid) c opened.carries.on leaves.is_cut)))
+      (all_there older own opened.batches synced (g.told mid) c once.0 (within_of record_of own synced on.holds.within) (stand store.log opened.batches [] 0 last_read leaves.disk (g.told mid) c opened.carries.on leaves.is_cut)))
       leaves.possible)

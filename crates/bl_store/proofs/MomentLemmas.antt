@@ -3,6 +3,7 @@ use Rattle.std.proofs.Common.{◌≡◌, ◌⊎◌, ⊎_elim, ℕ, ◌≤◌, Li
 use Rattle.std.proofs.lemmas.List.{take-append-le}
 use Rattle.bl_site.specs.Disk.{Disk, Cut, IsCut, MayLeave}
 use Rattle.bl_site.specs.Calls.{Elapses, LeavesOnly}
+use Rattle.bl_site.specs.declared.site.Site.{Ghosts}
 use Rattle.bl_site.proofs.Moments.{started, goes_on, cut_of_only}
 use Rattle.bl_entry.specs.Batches.{Batch}
 use Rattle.bl_wal.specs.LogFile.{LogFile}
@@ -31,47 +32,47 @@ of_more older own more least told c leaves = record {
       (s.0, s.1, omega (arith, s.2, length-append own more), (s.3.0, subst P (sym (take-append-le s.0 own more s.2)) s.3.1));
 }
 
-module _ {D : Type 0} (clock : D → ℕ) (left_since : D → ℕ → Cut → Type 0) (disk : D → Disk) (told : D → List ℕ) (may_be : D → Disk → Type 0) (stand : CutsStand)
-    (old : D) (only_now : OnlyNow clock left_since told may_be old) (only : (other : Disk) → may_be old other → other ≡ disk old) where
+module _ {D : Type 0} (g : Ghosts D) (stand : CutsStand)
+    (old : D) (only_now : OnlyNow g old) (only : (other : Disk) → g.may_be old other → other ≡ g.disk old) where
   -- one call more, after which no name call is in doubt
-  one_stands : (new : D) (P : List ℕ → Cut → Type 0) → told new ≡ told old → ((other : Disk) → may_be new other → other ≡ disk new)
-      → Elapses (clock old) (clock new) (left_since old) (left_since new) (MayLeave (may_be new) (told new))
-      → ((c : Cut) → IsCut (disk old) (told old) c → P (told old) c) → ((c : Cut) → IsCut (disk new) (told new) c → P (told new) c) → LeavesOnly clock left_since old new (P (told old))
+  one_stands : (new : D) (P : List ℕ → Cut → Type 0) → g.told new ≡ g.told old → ((other : Disk) → g.may_be new other → other ≡ g.disk new)
+      → Elapses (g.clock old) (g.clock new) (g.left_since old) (g.left_since new) (MayLeave (g.may_be new) (g.told new))
+      → ((c : Cut) → IsCut (g.disk old) (g.told old) c → P (g.told old) c) → ((c : Cut) → IsCut (g.disk new) (g.told new) c → P (g.told new) c) → LeavesOnly g.clock g.left_since old new (P (g.told old))
   one_stands new P same only_new time before after =
-      goes_on clock left_since old old new (P (told old)) (MayLeave (may_be new) (told new))
-      (started clock left_since old (P (told old)) (λ c left. before c (cut_of_only (may_be old) (disk old) (told old) c only (only_now c left)))) time
-      (λ c leaves. subst (λ (t : List ℕ). P t c) same (after c (cut_of_only (may_be new) (disk new) (told new) c only_new leaves)))
+      goes_on g.clock g.left_since old old new (P (g.told old)) (MayLeave (g.may_be new) (g.told new))
+      (started g.clock g.left_since old (P (g.told old)) (λ c left. before c (cut_of_only (g.may_be old) (g.disk old) (g.told old) c only (only_now c left)))) time
+      (λ c leaves. subst (λ (t : List ℕ). P t c) same (after c (cut_of_only (g.may_be new) (g.disk new) (g.told new) c only_new leaves)))
 
-  module _ (log : LogFile) (older own : List Batch) (synced last : ℕ) (on : StandsOn log older own synced last (disk old)) where
+  module _ (log : LogFile) (older own : List Batch) (synced last : ℕ) (on : StandsOn log older own synced last (g.disk old)) where
     -- no call
-    pub still_stands : LeavesOnly clock left_since old old (LeavesFirst older own synced (told old))
+    pub still_stands : LeavesOnly g.clock g.left_since old old (LeavesFirst older own synced (g.told old))
     still_stands =
-        started clock left_since old (LeavesFirst older own synced (told old))
-        (λ c left. stand log older own synced last (disk old) (told old) c on (cut_of_only (may_be old) (disk old) (told old) c only (only_now c left)))
+        started g.clock g.left_since old (LeavesFirst older own synced (g.told old))
+        (λ c left. stand log older own synced last (g.disk old) (g.told old) c on (cut_of_only (g.may_be old) (g.disk old) (g.told old) c only (only_now c left)))
 
-    pub still_stands_more : (more : List Batch) → LeavesOnly clock left_since old old (LeavesFirst older (own ++ more) synced (told old))
+    pub still_stands_more : (more : List Batch) → LeavesOnly g.clock g.left_since old old (LeavesFirst older (own ++ more) synced (g.told old))
     still_stands_more more =
-        started clock left_since old (LeavesFirst older (own ++ more) synced (told old))
-        (λ c left. of_more older own more synced (told old) c (stand log older own synced last (disk old) (told old) c on (cut_of_only (may_be old) (disk old) (told old) c only (only_now c left))))
+        started g.clock g.left_since old (LeavesFirst older (own ++ more) synced (g.told old))
+        (λ c left. of_more older own more synced (g.told old) c (stand log older own synced last (g.disk old) (g.told old) c on (cut_of_only (g.may_be old) (g.disk old) (g.told old) c only (only_now c left))))
 
     -- an append, whatever was answered
-    pub append_stands : (new : D) (log_next : LogFile) (more : List Batch) (last_next : ℕ) → told new ≡ told old → ((other : Disk) → may_be new other → other ≡ disk new)
-        → Elapses (clock old) (clock new) (left_since old) (left_since new) (MayLeave (may_be new) (told new))
-        → StandsOn log_next older own synced last (disk new) ⊎ StandsOn log_next older (own ++ more) synced last_next (disk new)
-        → LeavesOnly clock left_since old new (LeavesFirst older (own ++ more) synced (told old))
+    pub append_stands : (new : D) (log_next : LogFile) (more : List Batch) (last_next : ℕ) → g.told new ≡ g.told old → ((other : Disk) → g.may_be new other → other ≡ g.disk new)
+        → Elapses (g.clock old) (g.clock new) (g.left_since old) (g.left_since new) (MayLeave (g.may_be new) (g.told new))
+        → StandsOn log_next older own synced last (g.disk new) ⊎ StandsOn log_next older (own ++ more) synced last_next (g.disk new)
+        → LeavesOnly g.clock g.left_since old new (LeavesFirst older (own ++ more) synced (g.told old))
     append_stands new log_next more last_next same only_new time after =
         one_stands new (LeavesFirst older (own ++ more) synced) same only_new time
-        (λ c is. of_more older own more synced (told old) c (stand log older own synced last (disk old) (told old) c on is))
+        (λ c is. of_more older own more synced (g.told old) c (stand log older own synced last (g.disk old) (g.told old) c on is))
         (λ c is. ⊎_elim
-        (λ s. of_more older own more synced (told new) c (stand log_next older own synced last (disk new) (told new) c s is))
-        (λ s. stand log_next older (own ++ more) synced last_next (disk new) (told new) c s is)
+        (λ s. of_more older own more synced (g.told new) c (stand log_next older own synced last (g.disk new) (g.told new) c s is))
+        (λ s. stand log_next older (own ++ more) synced last_next (g.disk new) (g.told new) c s is)
         after)
 
     -- a sync, whatever was answered
-    pub sync_stands : (new : D) (log_next : LogFile) (synced_next : ℕ) → told new ≡ told old → ((other : Disk) → may_be new other → other ≡ disk new)
-        → Elapses (clock old) (clock new) (left_since old) (left_since new) (MayLeave (may_be new) (told new))
-        → synced ≤ synced_next → StandsOn log_next older own synced_next last (disk new)
-        → LeavesOnly clock left_since old new (LeavesFirst older own synced (told old))
+    pub sync_stands : (new : D) (log_next : LogFile) (synced_next : ℕ) → g.told new ≡ g.told old → ((other : Disk) → g.may_be new other → other ≡ g.disk new)
+        → Elapses (g.clock old) (g.clock new) (g.left_since old) (g.left_since new) (MayLeave (g.may_be new) (g.told new))
+        → synced ≤ synced_next → StandsOn log_next older own synced_next last (g.disk new)
+        → LeavesOnly g.clock g.left_since old new (LeavesFirst older own synced (g.told old))
     sync_stands new log_next synced_next same only_new time le after =
-        one_stands new (LeavesFirst older own synced) same only_new time (λ c is. stand log older own synced last (disk old) (told old) c on is)
-        (λ c is. at_least older own synced synced_next (told new) c le (stand log_next older own synced_next last (disk new) (told new) c after is))
+        one_stands new (LeavesFirst older own synced) same only_new time (λ c is. stand log older own synced last (g.disk old) (g.told old) c on is)
+        (λ c is. at_least older own synced synced_next (g.told new) c le (stand log_next older own synced_next last (g.disk new) (g.told new) c after is))

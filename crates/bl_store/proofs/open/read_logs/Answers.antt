@@ -30,8 +30,8 @@ returns-clause-before g c = λ shown.
     let old = c.args.site.now in
     let listed = c.list_logs.new.site in
     let synced = c.sync_logs.new.site in
-    let first = all_found site.clock site.left_since site.told site.may_be old listed (reads_left site shown old listed (law.only_now shown old) c.list_logs.ensures.quiet) in
-    let second = then_found site.clock site.left_since site.told site.may_be old listed synced (law.counts_now shown listed) (c.list_logs.ensures.quiet.told shown) first (c.sync_logs.ensures.before shown) in
+    let first = all_found site old listed (reads_left site shown old listed (law.only_now shown old) c.list_logs.ensures.quiet) in
+    let second = then_found site old listed synced (law.counts_now shown listed) (c.list_logs.ensures.quiet.told shown) first (c.sync_logs.ensures.before shown) in
     then_reads site shown old synced c.replay_logs.new.site (LeavesFound (site.may_be old) (site.told old)) (law.counts_now shown synced) second c.replay_logs.ensures.quiet
 
 pub returns-clause-cuts : goal.returns-clause-cuts
@@ -44,7 +44,7 @@ returns-clause-cuts g c = λ shown reads.
     let P = MayLeave (site.may_be old) (site.told old) in
     let R : Disk → Type 0 = AreReadAsWritten in
     let still = subst R (sym (c.list_logs.ensures.quiet.stays shown).same) reads in
-    let second = then_left site.clock site.left_since site.told site.may_be old listed synced P (law.counts_now shown listed) (reads_left site shown old listed (law.only_now shown old) c.list_logs.ensures.quiet) (c.sync_logs.ensures.cuts shown still) in
+    let second = then_left site old listed synced P (law.counts_now shown listed) (reads_left site shown old listed (law.only_now shown old) c.list_logs.ensures.quiet) (c.sync_logs.ensures.cuts shown still) in
     then_reads site shown old synced c.replay_logs.new.site P (law.counts_now shown synced) second c.replay_logs.ensures.quiet
 
 pub returns-in_err-numbers-clause-no_file : goal.returns-in_err-numbers-clause-no_file
@@ -65,15 +65,15 @@ pub returns-in_err-numbers-clause-no_new : goal.returns-in_err-numbers-clause-no
 returns-in_err-numbers-clause-no_new g c = λ shown sure.
     let site = g.S.Site in
     let old = c.args.site.now in
-    reads_no_new site.clock site.left_since site.disk site.told site.may_be old c.list_logs.new.site (λ other. g.met.S.Site.only shown old other sure) (reads_left site shown old c.list_logs.new.site (g.met.S.Site.only_now shown old) c.list_logs.ensures.quiet)
+    reads_no_new site old c.list_logs.new.site (λ other. g.met.S.Site.only shown old other sure) (reads_left site shown old c.list_logs.new.site (g.met.S.Site.only_now shown old) c.list_logs.ensures.quiet)
 
 pub returns-in_err-sync_logs-clause-no_new : goal.returns-in_err-sync_logs-clause-no_new
 returns-in_err-sync_logs-clause-no_new g c = λ shown sure.
     let site = g.S.Site in
     let old = c.args.site.now in
     let listed = c.list_logs.new.site in
-    then_no_new site.clock site.left_since site.disk site.told site.may_be old listed c.sync_logs.new.site (same_makes_no_file (site.disk old) (site.disk listed) (c.list_logs.ensures.quiet.stays shown).same)
-    (reads_no_new site.clock site.left_since site.disk site.told site.may_be old listed (λ other. g.met.S.Site.only shown old other sure) (reads_left site shown old c.list_logs.new.site (g.met.S.Site.only_now shown old) c.list_logs.ensures.quiet))
+    then_no_new site old listed c.sync_logs.new.site (same_makes_no_file (site.disk old) (site.disk listed) (c.list_logs.ensures.quiet.stays shown).same)
+    (reads_no_new site old listed (λ other. g.met.S.Site.only shown old other sure) (reads_left site shown old c.list_logs.new.site (g.met.S.Site.only_now shown old) c.list_logs.ensures.quiet))
     (c.sync_logs.ensures.no_new shown ((c.list_logs.ensures.quiet.stays shown).certain_stays sure))
 
 pub returns-clause-no_new : goal.returns-clause-no_new
@@ -84,11 +84,11 @@ returns-clause-no_new g c = λ shown sure.
     let synced = c.sync_logs.new.site in
     let same = same_makes_no_file (site.disk old) (site.disk listed) (c.list_logs.ensures.quiet.stays shown).same in
     let sure_listed = (c.list_logs.ensures.quiet.stays shown).certain_stays sure in
-    let first = then_no_new site.clock site.left_since site.disk site.told site.may_be old listed synced same
-    (reads_no_new site.clock site.left_since site.disk site.told site.may_be old listed (λ other. g.met.S.Site.only shown old other sure) (reads_left site shown old c.list_logs.new.site (g.met.S.Site.only_now shown old) c.list_logs.ensures.quiet))
+    let first = then_no_new site old listed synced same
+    (reads_no_new site old listed (λ other. g.met.S.Site.only shown old other sure) (reads_left site shown old c.list_logs.new.site (g.met.S.Site.only_now shown old) c.list_logs.ensures.quiet))
     (c.sync_logs.ensures.no_new shown sure_listed) in
-    then_no_new site.clock site.left_since site.disk site.told site.may_be old synced c.replay_logs.new.site (then_makes_no_file (site.disk old) (site.disk listed) (site.disk synced) same (c.sync_logs.ensures.no_file shown)) first
-    (reads_no_new site.clock site.left_since site.disk site.told site.may_be synced c.replay_logs.new.site (λ other. g.met.S.Site.only shown synced other (c.sync_logs.ensures.certain shown sure_listed)) (reads_left site shown synced c.replay_logs.new.site (g.met.S.Site.only_now shown synced) c.replay_logs.ensures.quiet))
+    then_no_new site old synced c.replay_logs.new.site (then_makes_no_file (site.disk old) (site.disk listed) (site.disk synced) same (c.sync_logs.ensures.no_file shown)) first
+    (reads_no_new site synced c.replay_logs.new.site (λ other. g.met.S.Site.only shown synced other (c.sync_logs.ensures.certain shown sure_listed)) (reads_left site shown synced c.replay_logs.new.site (g.met.S.Site.only_now shown synced) c.replay_logs.ensures.quiet))
 
 pub returns-in_err-numbers-clause-tells_nothing : goal.returns-in_err-numbers-clause-tells_nothing
 returns-in_err-numbers-clause-tells_nothing g c = reading_is_silent g.S.Site c.args.site.now c.list_logs.new.site c.list_logs.ensures.quiet

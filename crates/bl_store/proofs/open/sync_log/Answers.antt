@@ -9,7 +9,7 @@ use Rattle.bl_store.proofs.open.sync_log.Given as given
 use Rattle.bl_store.proofs.open.sync_log.Goals as goal
 
 -- a sync that fails
-failed : (g : given.Over) (c : goal.After-drop-name g) → g.S.Site.shows → SyncsOnce g.S.Site.clock g.S.Site.left_since g.S.Site.disk g.S.Site.told g.S.Site.may_be c.as_str.result.now c.args.site.now c.sync.new.self
+failed : (g : given.Over) (c : goal.After-drop-name g) → g.S.Site.shows → SyncsOnce g.S.Site c.as_str.result.now c.args.site.now c.sync.new.self
 failed g c shown =
     let site = g.S.Site in
     let old = c.args.site.now in
@@ -27,16 +27,16 @@ failed g c shown =
 pub returns-in_err-sync-clause-before : goal.returns-in_err-sync-clause-before
 returns-in_err-sync-clause-before g c = λ shown.
     let site = g.S.Site in
-    once_found site.clock site.left_since site.disk site.told site.may_be c.as_str.result.now c.args.site.now c.sync.new.self (failed g c shown)
+    once_found site c.as_str.result.now c.args.site.now c.sync.new.self (failed g c shown)
 
 pub returns-in_err-sync-clause-cuts : goal.returns-in_err-sync-clause-cuts
 returns-in_err-sync-clause-cuts g c = λ shown reads.
     let site = g.S.Site in
-    once_left site.clock site.left_since site.disk site.told site.may_be c.as_str.result.now c.args.site.now c.sync.new.self (failed g c shown)
+    once_left site c.as_str.result.now c.args.site.now c.sync.new.self (failed g c shown)
     (λ file is. reads c.args.number file c.requires.number (ap (site.disk c.args.site.now) (sym (c.as_str.ensures.value ∙ c.in_ok-name.ensures)) ∙ is))
 
 -- and one that is done
-done : (g : given.Over) (c : goal.After-drop-name-2 g) → g.S.Site.shows → SyncsOnce g.S.Site.clock g.S.Site.left_since g.S.Site.disk g.S.Site.told g.S.Site.may_be c.as_str.result.now c.args.site.now c.sync.new.self
+done : (g : given.Over) (c : goal.After-drop-name-2 g) → g.S.Site.shows → SyncsOnce g.S.Site c.as_str.result.now c.args.site.now c.sync.new.self
 done g c shown =
     let site = g.S.Site in
     let old = c.args.site.now in
@@ -64,12 +64,12 @@ returns-clause-others g c = λ shown.
 pub returns-clause-before : goal.returns-clause-before
 returns-clause-before g c = λ shown.
     let site = g.S.Site in
-    once_found site.clock site.left_since site.disk site.told site.may_be c.as_str.result.now c.args.site.now c.sync.new.self (done g c shown)
+    once_found site c.as_str.result.now c.args.site.now c.sync.new.self (done g c shown)
 
 pub returns-clause-cuts : goal.returns-clause-cuts
 returns-clause-cuts g c = λ shown reads.
     let site = g.S.Site in
-    once_left site.clock site.left_since site.disk site.told site.may_be c.as_str.result.now c.args.site.now c.sync.new.self (done g c shown)
+    once_left site c.as_str.result.now c.args.site.now c.sync.new.self (done g c shown)
     (λ file is. reads c.args.number file c.requires.number (ap (site.disk c.args.site.now) (sym (c.as_str.ensures.value ∙ c.in_ok-name.ensures)) ∙ is))
 
 pub returns-in_err-sync-clause-no_file : goal.returns-in_err-sync-clause-no_file
@@ -82,7 +82,7 @@ pub returns-in_err-sync-clause-no_new : goal.returns-in_err-sync-clause-no_new
 returns-in_err-sync-clause-no_new g c = λ shown sure.
     let site = g.S.Site in
     let old = c.args.site.now in
-    call_no_new site.clock site.left_since site.disk site.told site.may_be old c.sync.new.self (sync_makes_no_file c.as_str.result.now _ _ (failed g c shown).outcome)
+    call_no_new site old c.sync.new.self (sync_makes_no_file c.as_str.result.now _ _ (failed g c shown).outcome)
     (no_call_no_new site.clock site.left_since site.disk site.told site.may_be old (λ other. g.met.S.Site.only shown old other sure) (g.met.S.Site.only_now shown old)) (c.sync.ensures.time shown)
     (λ other. g.met.S.Site.only shown c.sync.new.self other (c.sync.ensures.certain shown sure))
 
@@ -90,7 +90,7 @@ pub returns-clause-no_new : goal.returns-clause-no_new
 returns-clause-no_new g c = λ shown sure.
     let site = g.S.Site in
     let old = c.args.site.now in
-    call_no_new site.clock site.left_since site.disk site.told site.may_be old c.sync.new.self (sync_makes_no_file c.as_str.result.now _ _ (done g c shown).outcome)
+    call_no_new site old c.sync.new.self (sync_makes_no_file c.as_str.result.now _ _ (done g c shown).outcome)
     (no_call_no_new site.clock site.left_since site.disk site.told site.may_be old (λ other. g.met.S.Site.only shown old other sure) (g.met.S.Site.only_now shown old)) (c.sync.ensures.time shown)
     (λ other. g.met.S.Site.only shown c.sync.new.self other (c.sync.ensures.certain shown sure))
 

@@ -32,18 +32,18 @@ loop-number-preserved g c =
       no_file = λ shown. then_makes_no_file (g.S.Site.disk c.args.site.now) (g.S.Site.disk c.loop-number.site) (g.S.Site.disk c.sync_log.new.site) (i.no_file shown) (c.sync_log.ensures.no_file shown);
       no_new = λ shown sure.
           let site = g.S.Site in
-          then_no_new site.clock site.left_since site.disk site.told site.may_be c.args.site.now c.loop-number.site c.sync_log.new.site (i.no_file shown) (i.no_new shown sure)
+          then_no_new site c.args.site.now c.loop-number.site c.sync_log.new.site (i.no_file shown) (i.no_new shown sure)
           (c.sync_log.ensures.no_new shown (i.certain shown sure));
       certain = λ shown sure. c.sync_log.ensures.certain shown (i.certain shown sure);
       before = λ shown.
           let site = g.S.Site in
-          then_found site.clock site.left_since site.told site.may_be c.args.site.now c.loop-number.site c.sync_log.new.site (g.met.S.Site.counts_now shown c.loop-number.site) (i.tells_nothing.told shown)
+          then_found site c.args.site.now c.loop-number.site c.sync_log.new.site (g.met.S.Site.counts_now shown c.loop-number.site) (i.tells_nothing.told shown)
           (i.before shown) (c.sync_log.ensures.before shown);
       cuts = λ shown reads.
           let site = g.S.Site in
           let here = i.cuts shown reads in (
             sync_reads (log_name number) (site.disk c.loop-number.site) (site.disk c.sync_log.new.site) (c.in_ok-sync_log.ensures.done shown) here.0,
-            then_left site.clock site.left_since site.told site.may_be c.args.site.now c.loop-number.site c.sync_log.new.site (MayLeave (site.may_be c.args.site.now) (site.told c.args.site.now))
+            then_left site c.args.site.now c.loop-number.site c.sync_log.new.site (MayLeave (site.may_be c.args.site.now) (site.told c.args.site.now))
                 (g.met.S.Site.counts_now shown c.loop-number.site) here.1 (c.sync_log.ensures.cuts shown here.0),
           );
       tells_nothing = silent_on g.S.Site c.args.site.now c.loop-number.site c.sync_log.new.site i.tells_nothing c.sync_log.ensures.tells_nothing;
@@ -63,14 +63,14 @@ pub returns-in_err-sync_log-clause-before : goal.returns-in_err-sync_log-clause-
 returns-in_err-sync_log-clause-before g c = λ shown.
     let site = g.S.Site in
     let i = c.loop-number.invariant in
-    then_found site.clock site.left_since site.told site.may_be c.args.site.now c.loop-number.site c.sync_log.new.site (g.met.S.Site.counts_now shown c.loop-number.site) (i.tells_nothing.told shown)
+    then_found site c.args.site.now c.loop-number.site c.sync_log.new.site (g.met.S.Site.counts_now shown c.loop-number.site) (i.tells_nothing.told shown)
     (i.before shown) (c.sync_log.ensures.before shown)
 
 pub returns-in_err-sync_log-clause-cuts : goal.returns-in_err-sync_log-clause-cuts
 returns-in_err-sync_log-clause-cuts g c = λ shown reads.
     let site = g.S.Site in
     let here = c.loop-number.invariant.cuts shown reads in
-    then_left site.clock site.left_since site.told site.may_be c.args.site.now c.loop-number.site c.sync_log.new.site (MayLeave (site.may_be c.args.site.now) (site.told c.args.site.now))
+    then_left site c.args.site.now c.loop-number.site c.sync_log.new.site (MayLeave (site.may_be c.args.site.now) (site.told c.args.site.now))
     (g.met.S.Site.counts_now shown c.loop-number.site) here.1 (c.sync_log.ensures.cuts shown here.0)
 
 pub loop-number-init : goal.loop-number-init
@@ -84,8 +84,8 @@ loop-number-init g c =
       no_file = λ shown name some. some;
       no_new = λ shown sure. no_call_no_new site.clock site.left_since site.disk site.told site.may_be old (λ other. g.met.S.Site.only shown old other sure) (g.met.S.Site.only_now shown old);
       certain = λ shown sure. sure;
-      before = λ shown. all_found site.clock site.left_since site.told site.may_be old old (no_call site.clock site.left_since site.told site.may_be old (g.met.S.Site.only_now shown old));
-      cuts = λ shown reads. (reads, no_call site.clock site.left_since site.told site.may_be old (g.met.S.Site.only_now shown old));
+      before = λ shown. all_found site old old (no_call site old (g.met.S.Site.only_now shown old));
+      cuts = λ shown reads. (reads, no_call site old (g.met.S.Site.only_now shown old));
       tells_nothing = reading_is_silent site old old (reads_nothing site old);
     }
 
@@ -97,7 +97,7 @@ pub returns-in_err-sync_log-clause-no_new : goal.returns-in_err-sync_log-clause-
 returns-in_err-sync_log-clause-no_new g c = λ shown sure.
     let site = g.S.Site in
     let i = c.loop-number.invariant in
-    then_no_new site.clock site.left_since site.disk site.told site.may_be c.args.site.now c.loop-number.site c.sync_log.new.site (i.no_file shown) (i.no_new shown sure)
+    then_no_new site c.args.site.now c.loop-number.site c.sync_log.new.site (i.no_file shown) (i.no_new shown sure)
     (c.sync_log.ensures.no_new shown (i.certain shown sure))
 
 pub returns-in_err-sync_log-clause-tells_nothing : goal.returns-in_err-sync_log-clause-tells_nothing

@@ -39,23 +39,23 @@ returns-in_err-number-clause-full g c = λ shown number is.
     (sym one, n.0, n.1)
 
 pub returns-in_err-memory-clause-before : goal.returns-in_err-memory-clause-before
-returns-in_err-memory-clause-before g c = λ shown. read_before g.S.Site.clock g.S.Site.left_since g.S.Site.disk g.S.Site.told g.S.Site.may_be (folder_of (g.S.Site.disk c.args.site.now)) c.args.site.now c.read_logs.new.site (c.read_logs.ensures.before shown)
+returns-in_err-memory-clause-before g c = λ shown. read_before g.S.Site (folder_of (g.S.Site.disk c.args.site.now)) c.args.site.now c.read_logs.new.site (c.read_logs.ensures.before shown)
 
 pub returns-in_err-memory-clause-cuts : goal.returns-in_err-memory-clause-cuts
 returns-in_err-memory-clause-cuts g c = λ shown sure log older own synced last whole on.
     let site = g.S.Site in
     let old = c.args.site.now in
-    read_stands site.clock site.left_since site.disk site.told site.may_be c.cuts_stand.ensures old (λ other. g.met.S.Site.only shown old other sure) log older own synced last on
+    read_stands site c.cuts_stand.ensures old (λ other. g.met.S.Site.only shown old other sure) log older own synced last on
     c.read_logs.new.site (c.read_logs.ensures.cuts shown (stands_reads log older own synced last (site.disk old) whole on))
 
 pub returns-in_err-number-clause-before : goal.returns-in_err-number-clause-before
-returns-in_err-number-clause-before g c = λ shown. read_before g.S.Site.clock g.S.Site.left_since g.S.Site.disk g.S.Site.told g.S.Site.may_be (folder_of (g.S.Site.disk c.args.site.now)) c.args.site.now c.read_logs.new.site (c.read_logs.ensures.before shown)
+returns-in_err-number-clause-before g c = λ shown. read_before g.S.Site (folder_of (g.S.Site.disk c.args.site.now)) c.args.site.now c.read_logs.new.site (c.read_logs.ensures.before shown)
 
 pub returns-in_err-number-clause-cuts : goal.returns-in_err-number-clause-cuts
 returns-in_err-number-clause-cuts g c = λ shown sure log older own synced last whole on.
     let site = g.S.Site in
     let old = c.args.site.now in
-    read_stands site.clock site.left_since site.disk site.told site.may_be c.cuts_stand.ensures old (λ other. g.met.S.Site.only shown old other sure) log older own synced last on
+    read_stands site c.cuts_stand.ensures old (λ other. g.met.S.Site.only shown old other sure) log older own synced last on
     c.read_logs.new.site (c.read_logs.ensures.cuts shown (stands_reads log older own synced last (site.disk old) whole on))
 
 pub returns-in_err-wal-clause-before : goal.returns-in_err-wal-clause-before
@@ -67,7 +67,7 @@ returns-in_err-wal-clause-before g c = λ shown.
     let next = c.in_ok-number.ensures.next in
     let read = c.in_ok-memory.ensures.read shown in
     let is : IsNumber c.in_ok-number.number = (omega (arith, next.0), next.1) in
-    made_before site.clock site.left_since site.disk site.told site.may_be (folder_of (site.disk old)) c.in_ok-number.number old mid c.create.new.site
+    made_before site (folder_of (site.disk old)) c.in_ok-number.number old mid c.create.new.site
     (g.met.S.Site.counts_now shown mid) (c.read_logs.ensures.tells_nothing.told shown) is (is_next (folder_of (site.disk old)) (map_in m.map.entries) m.last m.greatest c.in_ok-number.number read.all next.0)
     (c.read_logs.ensures.before shown) (c.create.ensures.time shown)
 
@@ -79,7 +79,7 @@ returns-in_err-wal-clause-cuts g c = λ shown sure log older own synced last who
     let m = c.in_ok-memory.memory in
     let next = c.in_ok-number.ensures.next in
     let read = c.in_ok-memory.ensures.read shown in
-    made_stands site.clock site.left_since site.disk site.told site.may_be c.cuts_stand.ensures old (λ other. g.met.S.Site.only shown old other sure) log older own synced last on
+    made_stands site c.cuts_stand.ensures old (λ other. g.met.S.Site.only shown old other sure) log older own synced last on
     c.names_one.ensures c.batches_are_once.ensures c.stores_stand.ensures mid c.create.new.site (map_in m.map.entries) m.last m.greatest c.in_ok-number.number whole
     (g.met.S.Site.counts_now shown mid) (c.read_logs.ensures.tells_nothing.told shown) (λ other. g.met.S.Site.only shown mid other (c.read_logs.ensures.certain shown sure)) read next.0 next.1
     (c.read_logs.ensures.cuts shown (stands_reads log older own synced last (site.disk old) whole on)) (c.create.ensures.time shown)
@@ -114,7 +114,7 @@ returns-clause-before g c = λ shown.
     let next = c.in_ok-number.ensures.next in
     let read = c.in_ok-memory.ensures.read shown in
     let is : IsNumber c.in_ok-number.number = (omega (arith, next.0), next.1) in
-    made_before site.clock site.left_since site.disk site.told site.may_be (folder_of (site.disk old)) c.in_ok-number.number old mid c.create.new.site
+    made_before site (folder_of (site.disk old)) c.in_ok-number.number old mid c.create.new.site
     (g.met.S.Site.counts_now shown mid) (c.read_logs.ensures.tells_nothing.told shown) is (is_next (folder_of (site.disk old)) (map_in m.map.entries) m.last m.greatest c.in_ok-number.number read.all next.0)
     (c.read_logs.ensures.before shown) (c.create.ensures.time shown)
 
@@ -126,7 +126,7 @@ returns-clause-cuts g c = λ shown sure log older own synced last whole on.
     let m = c.in_ok-memory.memory in
     let next = c.in_ok-number.ensures.next in
     let read = c.in_ok-memory.ensures.read shown in
-    made_stands site.clock site.left_since site.disk site.told site.may_be c.cuts_stand.ensures old (λ other. g.met.S.Site.only shown old other sure) log older own synced last on
+    made_stands site c.cuts_stand.ensures old (λ other. g.met.S.Site.only shown old other sure) log older own synced last on
     c.names_one.ensures c.batches_are_once.ensures c.stores_stand.ensures mid c.create.new.site (map_in m.map.entries) m.last m.greatest c.in_ok-number.number whole
     (g.met.S.Site.counts_now shown mid) (c.read_logs.ensures.tells_nothing.told shown) (λ other. g.met.S.Site.only shown mid other (c.read_logs.ensures.certain shown sure)) read next.0 next.1
     (c.read_logs.ensures.cuts shown (stands_reads log older own synced last (site.disk old) whole on)) (c.create.ensures.time shown)
@@ -162,12 +162,12 @@ returns-clause-made g c = λ shown next. record { store = _; usable = refl; open
 pub returns-in_err-memory-clause-behind : goal.returns-in_err-memory-clause-behind
 returns-in_err-memory-clause-behind g c = λ shown sure.
     let site = g.S.Site in
-    unmade_behind site.clock site.left_since site.disk site.told site.may_be c.args.site.now c.read_logs.new.site (c.read_logs.ensures.no_new shown sure)
+    unmade_behind site c.args.site.now c.read_logs.new.site (c.read_logs.ensures.no_new shown sure)
 
 pub returns-in_err-number-clause-behind : goal.returns-in_err-number-clause-behind
 returns-in_err-number-clause-behind g c = λ shown sure.
     let site = g.S.Site in
-    unmade_behind site.clock site.left_since site.disk site.told site.may_be c.args.site.now c.read_logs.new.site (c.read_logs.ensures.no_new shown sure)
+    unmade_behind site c.args.site.now c.read_logs.new.site (c.read_logs.ensures.no_new shown sure)
 
 pub returns-in_err-wal-clause-behind : goal.returns-in_err-wal-clause-behind
 returns-in_err-wal-clause-behind g c = λ shown sure.
@@ -177,7 +177,7 @@ returns-in_err-wal-clause-behind g c = λ shown sure.
     let m = c.in_ok-memory.memory in
     let number = c.in_ok-number.number in
     let read = c.in_ok-memory.ensures.read shown in
-    made_behind site.clock site.left_since site.disk site.told site.may_be number old mid c.create.new.site (c.read_logs.ensures.no_file shown) (c.read_logs.ensures.no_new shown sure) (c.create.ensures.time shown)
+    made_behind site number old mid c.create.new.site (c.read_logs.ensures.no_file shown) (c.read_logs.ensures.no_new shown sure) (c.create.ensures.time shown)
     (λ other. g.met.S.Site.only shown mid other (c.read_logs.ensures.certain shown sure)) (c.read_logs.ensures.tells_nothing.told shown)
     (λ after made. is_opened c.names_one.ensures (folder_of (site.disk old)) (site.disk mid) after (map_in m.map.entries) m.last m.greatest number read c.in_ok-number.ensures.next.0 c.in_ok-number.ensures.next.1 made)
 
@@ -189,6 +189,6 @@ returns-clause-behind g c = λ shown sure.
     let m = c.in_ok-memory.memory in
     let number = c.in_ok-number.number in
     let read = c.in_ok-memory.ensures.read shown in
-    made_behind site.clock site.left_since site.disk site.told site.may_be number old mid c.create.new.site (c.read_logs.ensures.no_file shown) (c.read_logs.ensures.no_new shown sure) (c.create.ensures.time shown)
+    made_behind site number old mid c.create.new.site (c.read_logs.ensures.no_file shown) (c.read_logs.ensures.no_new shown sure) (c.create.ensures.time shown)
     (λ other. g.met.S.Site.only shown mid other (c.read_logs.ensures.certain shown sure)) (c.read_logs.ensures.tells_nothing.told shown)
     (λ after made. is_opened c.names_one.ensures (folder_of (site.disk old)) (site.disk mid) after (map_in m.map.entries) m.last m.greatest number read c.in_ok-number.ensures.next.0 c.in_ok-number.ensures.next.1 made)

@@ -60,7 +60,7 @@ returns-then-self-clause-cuts g c = λ shown sure older own synced carries.
     let site = g.S.Site in
     let old = c.args.site.now in
     let store = c.args.self.now in
-    still_stands site.clock site.left_since site.disk site.told site.may_be c.cuts_stand.ensures old (g.met.S.Site.only_now shown old) (λ other. g.met.S.Site.only shown old other sure)
+    still_stands site c.cuts_stand.ensures old (g.met.S.Site.only_now shown old) (λ other. g.met.S.Site.only shown old other sure)
     store.log older own synced store.last carries.on
 
 pub returns-in-Err-clause-cuts : goal.returns-in-Err-clause-cuts
@@ -69,7 +69,7 @@ returns-in-Err-clause-cuts g c = λ shown sure older own synced carries.
     let old = c.args.site.now in
     let store = c.args.self.now in
     let new = c.sync.new.site in
-    sync_stands site.clock site.left_since site.disk site.told site.may_be c.cuts_stand.ensures old (g.met.S.Site.only_now shown old) (λ other. g.met.S.Site.only shown old other sure)
+    sync_stands site c.cuts_stand.ensures old (g.met.S.Site.only_now shown old) (λ other. g.met.S.Site.only shown old other sure)
     store.log older own synced store.last carries.on new c.sync.new.self synced (c.sync.ensures.tells_nothing.told shown)
     (λ other. g.met.S.Site.only shown new other (c.sync.ensures.certain shown sure)) (c.sync.ensures.time shown) (omega arith) (returns-in-Err-clause-held g c shown older own synced carries)
 
@@ -80,6 +80,6 @@ returns-clause-cuts g c = λ shown sure older own synced carries.
     let store = c.args.self.now in
     let new = c.sync.new.site in
     let L : ℕ → Type 0 = λ l. StandsOn c.sync.new.self older own (length own) l (site.disk new) in
-    sync_stands site.clock site.left_since site.disk site.told site.may_be c.cuts_stand.ensures old (g.met.S.Site.only_now shown old) (λ other. g.met.S.Site.only shown old other sure)
+    sync_stands site c.cuts_stand.ensures old (g.met.S.Site.only_now shown old) (λ other. g.met.S.Site.only shown old other sure)
     store.log older own synced store.last carries.on new c.sync.new.self (length own) (c.sync.ensures.tells_nothing.told shown)
     (λ other. g.met.S.Site.only shown new other (c.sync.ensures.certain shown sure)) (c.sync.ensures.time shown) (within_of record_of own synced carries.on.holds.within) (subst L (ap (λ (s : Stored). s.last) c.self.view_is) (returns-clause-carried g c shown older own synced carries).on)

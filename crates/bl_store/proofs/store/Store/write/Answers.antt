@@ -69,7 +69,7 @@ returns-then-self-clause-cuts g c = λ shown sure older own synced carries.
     let old = c.args.site.now in
     let store = c.args.self.now in
     let b = next_batch store c.args.batch.now in
-    still_stands_more site.clock site.left_since site.disk site.told site.may_be c.cuts_stand.ensures old (g.met.S.Site.only_now shown old) (λ other. g.met.S.Site.only shown old other sure)
+    still_stands_more site c.cuts_stand.ensures old (g.met.S.Site.only_now shown old) (λ other. g.met.S.Site.only shown old other sure)
     store.log older own synced store.last carries.on (b ∷ [])
 
 pub returns-then-self-gt-MAX_SEQUENCE-clause-cuts : goal.returns-then-self-gt-MAX_SEQUENCE-clause-cuts
@@ -78,7 +78,7 @@ returns-then-self-gt-MAX_SEQUENCE-clause-cuts g c = λ shown sure older own sync
     let old = c.args.site.now in
     let store = c.args.self.now in
     let b = next_batch store c.args.batch.now in
-    still_stands_more site.clock site.left_since site.disk site.told site.may_be c.cuts_stand.ensures old (g.met.S.Site.only_now shown old) (λ other. g.met.S.Site.only shown old other sure)
+    still_stands_more site c.cuts_stand.ensures old (g.met.S.Site.only_now shown old) (λ other. g.met.S.Site.only shown old other sure)
     store.log older own synced store.last carries.on (b ∷ [])
 
 pub returns-in-Err-clause-cuts : goal.returns-in-Err-clause-cuts
@@ -88,7 +88,7 @@ returns-in-Err-clause-cuts g c = λ shown sure older own synced carries.
     let store = c.args.self.now in
     let b = next_batch store c.args.batch.now in
     let new = c.append.new.site in
-    append_stands site.clock site.left_since site.disk site.told site.may_be c.cuts_stand.ensures old (g.met.S.Site.only_now shown old) (λ other. g.met.S.Site.only shown old other sure)
+    append_stands site c.cuts_stand.ensures old (g.met.S.Site.only_now shown old) (λ other. g.met.S.Site.only shown old other sure)
     store.log older own synced store.last carries.on new c.append.new.self (b ∷ []) (store.last + length c.args.batch.now) (c.append.ensures.tells_nothing.told shown)
     (λ other. g.met.S.Site.only shown new other (c.append.ensures.certain shown sure)) (c.append.ensures.time shown) (returns-in-Err-clause-held g c shown older own synced carries)
 
@@ -99,7 +99,7 @@ returns-in-Err-put_operations-clause-cuts g c = λ shown sure older own synced c
     let store = c.args.self.now in
     let b = next_batch store c.args.batch.now in
     let new = c.append.new.site in
-    append_stands site.clock site.left_since site.disk site.told site.may_be c.cuts_stand.ensures old (g.met.S.Site.only_now shown old) (λ other. g.met.S.Site.only shown old other sure)
+    append_stands site c.cuts_stand.ensures old (g.met.S.Site.only_now shown old) (λ other. g.met.S.Site.only shown old other sure)
     store.log older own synced store.last carries.on new c.append.new.self (b ∷ []) (store.last + length c.args.batch.now) (c.append.ensures.tells_nothing.told shown)
     (λ other. g.met.S.Site.only shown new other (c.append.ensures.certain shown sure)) (c.append.ensures.time shown) (returns-in-Err-put_operations-clause-held g c shown older own synced carries)
 
@@ -111,6 +111,6 @@ returns-clause-cuts g c = λ shown sure older own synced carries.
     let b = next_batch store c.args.batch.now in
     let new = c.append.new.site in
     let L : ℕ → Type 0 = λ l. StandsOn c.append.new.self older (own ++ b ∷ []) synced l (site.disk new) in
-    append_stands site.clock site.left_since site.disk site.told site.may_be c.cuts_stand.ensures old (g.met.S.Site.only_now shown old) (λ other. g.met.S.Site.only shown old other sure)
+    append_stands site c.cuts_stand.ensures old (g.met.S.Site.only_now shown old) (λ other. g.met.S.Site.only shown old other sure)
     store.log older own synced store.last carries.on new c.append.new.self (b ∷ []) (store.last + length c.args.batch.now) (c.append.ensures.tells_nothing.told shown)
     (λ other. g.met.S.Site.only shown new other (c.append.ensures.certain shown sure)) (c.append.ensures.time shown) (inr (subst L (ap (λ n. c.self.inside.last + n) (c.from-count.ensures ∙ c.count.ensures) ∙ ap (λ (s : Stored). s.last + length c.args.batch.now) c.self.view_is) (returns-clause-carried g c shown older own synced carries).on))
