@@ -1,17 +1,17 @@
 -- Tables that clash, and the first added one that does.
-use Rattle.std.proofs.Common.{◌≡◌, ℕ, zero, suc, ◌+◌, ◌-◌, ◌<◌, ◌≤◌, Bool, true, false, cond, List, [], ◌∷◌, ◌++◌, length, take, drop, drop-cons, get_or, refl, sym, ◌∙◌, ap, subst, arith, inl, inr, Option, Some, None, add-one}
+use Rattle.std.proofs.Common.{◌≡◌, ℕ, zero, suc, ◌+◌, ◌<◌, ◌≤◌, Bool, true, false, cond, List, [], ◌∷◌, ◌++◌, length, take, drop, drop-cons, get_or, refl, sym, ◌∙◌, ap, arith, inl, inr, Option, Some, None, add-one}
 use Rattle.std.specs.Prelude.{◌==◌, ◌&&◌, ◌||◌, not}
 use Rattle.std.specs.List.{AllByRecursion, IsDistinct, list_any}
 use Rattle.std.specs.List.Sorted.{IsPermutation}
-use Rattle.std.proofs.lemmas.Bool.{eq-eqb, eqb-true, cases_eq}
+use Rattle.std.proofs.lemmas.Bool.{eq-eqb, cases_eq}
 use Rattle.std.proofs.lemmas.List.{take_more}
 use Rattle.std.proofs.lemmas.Map.Keys.{IsDistinct-IsPermutation, IsDistinct-head, IsDistinct-tail, IsDistinct-cons, IsDistinct-from_apart}
-use Rattle.std.proofs.lemmas.List.Sorted.{IsPermutation-sym, list_any-IsPermutation}
+use Rattle.std.proofs.lemmas.List.Sorted.{IsPermutation-sym}
 use Rattle.bl_code.specs.Order.{bytes_le}
 use Rattle.bl_edit.specs.declared.edit.NewTable.{NewTable}
 use Rattle.bl_build.specs.Versions.{clash, overlap, first_user, last_user, first_overlap}
 use Rattle.bl_build.proofs.Files.{or_parts}
-use Rattle.bl_build.proofs.Levels.{both_true, not_eqb}
+use Rattle.bl_build.proofs.Levels.{not_eqb}
 use Rattle.bl_build.proofs.Placing.{all_from}
 use Rattle.bl_build.proofs.Searching.{drop_all}
 
@@ -88,9 +88,10 @@ passed_parts false n rest h = (refl, h)
 -- each with one fewer on the other side
 one_fewer : (t : NewTable) (there us : List NewTable) → AllByRecursion (λ u. list_any (clash u) (t ∷ there) ≡ false) us
     → AllByRecursion (λ u. clash t u ≡ false) us × AllByRecursion (λ u. list_any (clash u) there ≡ false) us
-one_fewer t there us h =
-    (all_from (λ u. list_any (clash u) (t ∷ there) ≡ false) (λ u. clash t u ≡ false) us (λ u k. clash_flips t u ∙ (or_parts (clash u t) (list_any (clash u) there) k).0) h,
-    all_from (λ u. list_any (clash u) (t ∷ there) ≡ false) (λ u. list_any (clash u) there ≡ false) us (λ u k. (or_parts (clash u t) (list_any (clash u) there) k).1) h)
+one_fewer t there us h = (
+  all_from (λ u. list_any (clash u) (t ∷ there) ≡ false) (λ u. clash t u ≡ false) us (λ u k. clash_flips t u ∙ (or_parts (clash u t) (list_any (clash u) there) k).0) h,
+  all_from (λ u. list_any (clash u) (t ∷ there) ≡ false) (λ u. list_any (clash u) there ≡ false) us (λ u k. (or_parts (clash u t) (list_any (clash u) there) k).1) h,
+)
 
 none_distinct : IsDistinct clash []
 none_distinct = IsDistinct-from_apart clash [] (λ i j d less lt. absurd (omega arith))

@@ -1,5 +1,5 @@
 -- A front, in which tables are looked up by their order.
-use Rattle.std.proofs.Common.{◌≡◌, ℕ, zero, suc, ◌+◌, ◌-◌, ◌<◌, ◌≤◌, nat_lt, Bool, true, false, cond, List, [], ◌∷◌, ◌++◌, length, take, get_or, refl, sym, ◌∙◌, ap, subst, arith, inl, inr, ◌⊎◌, None, Some, add-one, length-append}
+use Rattle.std.proofs.Common.{◌≡◌, ℕ, suc, ◌+◌, ◌-◌, ◌<◌, ◌≤◌, nat_lt, Bool, true, false, List, [], ◌∷◌, ◌++◌, length, take, get_or, refl, sym, ◌∙◌, ap, subst, arith, inl, inr, ◌⊎◌, None, Some, length-append}
 use Rattle.std.specs.Prelude.{◌==◌, ◌&&◌, ◌||◌, ◌↔◌, not, map, IsTrue}
 use Rattle.std.specs.List.{AllByRecursion, list_any}
 use Rattle.std.specs.List.Sorted.{IsPartitionedBy, IsPermutation, IsSortedBy}
@@ -22,7 +22,7 @@ use Rattle.bl_edit.specs.declared.edit.NewTable.{NewTable}
 use Rattle.bl_build.specs.Fronts.{Falls, IsFront, by_end, covers, reaches}
 use Rattle.bl_build.specs.Versions.{clash, overlap, first_user, last_user, first_overlap}
 use Rattle.bl_build.proofs.Clashing.{Searches, any_push, both_pass, first_at, pass_both, reordered, searches_end, searches_here, searches_more, searches_start}
-use Rattle.bl_build.proofs.Levels.{both_true, not_eqb}
+use Rattle.bl_build.proofs.Levels.{both_true}
 use Rattle.bl_build.proofs.Files.{or_parts}
 use Rattle.bl_build.proofs.Placing.{all_from, get_mapped, map_push, take_whole}
 use Rattle.bl_build.proofs.Searching.{not_true}
@@ -164,12 +164,12 @@ pub last_reach : (xs : List NewTable) (t d : NewTable) (n : ℕ) → IsFront xs 
 last_reach xs t d n front lt here behind = elim (cases_Bool (clash t (get_or xs n d))) [
   | inl hit ↦ hit ∙ sym (list_any_at (clash t) xs n d lt hit)
   | inr none ↦ none ∙ sym (none_of (clash t) xs d (λ k lt2. elim (cases_lt n k) [
-      | inl less ↦ unreached t (get_or xs k d) (behind k (omega arith) lt2)
-      | inr more ↦ elim (cases_eq k n) [
-          | inl e ↦ ap (λ (j : ℕ). clash t (get_or xs j d)) e ∙ none
-          | inr other ↦ from_not (clash t (get_or xs k d)) (λ h. false≢true (sym none ∙ passes_on t (get_or xs k d) (get_or xs n d) (front.falls k n d (omega (arith, other)) lt) here h))
-        ]
-    ]))
+    | inl less ↦ unreached t (get_or xs k d) (behind k (omega arith) lt2)
+    | inr more ↦ elim (cases_eq k n) [
+      | inl e ↦ ap (λ (j : ℕ). clash t (get_or xs j d)) e ∙ none
+      | inr other ↦ from_not (clash t (get_or xs k d)) (λ h. false≢true (sym none ∙ passes_on t (get_or xs k d) (get_or xs n d) (front.falls k n d (omega (arith, other)) lt) here h))
+    ]
+  ]))
 ]
 
 abbrev pub now_of : Bor NewTable → NewTable
@@ -249,21 +249,21 @@ falls_last front t k f lt at_k at_last other =
     let n : ℕ = length front - 1 in
     let last : NewTable = get_or front (length front - 1) t in
     let begins : last.level ≡ t.level → bytes_le (first_user t) (first_user last) ≡ true = λ e. le_other (first_user last) (first_user t)
-      (from_not (bytes_le (first_user last) (first_user t)) (λ h. false≢true (sym other ∙ (λ i. eq-eqb last.level t.level e i && h i)))) in
+    (from_not (bytes_le (first_user last) (first_user t)) (λ h. false≢true (sym other ∙ (λ i. eq-eqb last.level t.level e i && h i)))) in
     elim at_k [
       | inl less ↦ inl less
       | inr same ↦ elim (cases_lt k n) [
-          | inl before ↦
-              let low : t.level ≤ last.level = elim at_last [ inl less ↦ omega arith | inr e ↦ omega (arith, e.0) ] in
-              elim (f.falls k n t before (omega arith)) [
-                | inl less ↦ absurd (omega (arith, same.0, low, less))
-                | inr g ↦ inr (same.0, same.1, le_trans (first_user t) (first_user last) (first_user (get_or front k t)) (begins (g.0 ∙ sym same.0)) g.2)
-              ]
-          | inr behind ↦
-              let e : n ≡ k = omega arith in
-              let here : get_or front k t ≡ last = sym (ap (λ (j : ℕ). get_or front j t) e) in
-              inr (same.0, same.1, ap (λ (u : NewTable). bytes_le (first_user t) (first_user u)) here ∙ begins (ap (λ (u : NewTable). u.level) (sym here) ∙ sym same.0))
-        ]
+        | inl before ↦
+            let low : t.level ≤ last.level = elim at_last [ inl less ↦ omega arith | inr e ↦ omega (arith, e.0) ] in
+            elim (f.falls k n t before (omega arith)) [
+              | inl less ↦ absurd (omega (arith, same.0, low, less))
+              | inr g ↦ inr (same.0, same.1, le_trans (first_user t) (first_user last) (first_user (get_or front k t)) (begins (g.0 ∙ sym same.0)) g.2)
+            ]
+        | inr behind ↦
+            let e : n ≡ k = omega arith in
+            let here : get_or front k t ≡ last = sym (ap (λ (j : ℕ). get_or front j t) e) in
+            inr (same.0, same.1, ap (λ (u : NewTable). bytes_le (first_user t) (first_user u)) here ∙ begins (ap (λ (u : NewTable). u.level) (sym here) ∙ sym same.0))
+      ]
     ]
 
 pub builds_push : (ts : List NewTable) (i : ℕ) (front : List NewTable) (t d : NewTable) → Builds ts i front → Descends ts → i < length ts → t ≡ get_or ts i d → list_any (clash t) front ≡ false
@@ -328,10 +328,10 @@ builds_skip ts i front t d s lt is none some cover = record {
         let covered = both_true (last.level == t.level) (bytes_le (first_user last) (first_user t)) cover in
         let level : last.level ≡ t.level = eqb-true last.level t.level covered.0 in
         let ends : bytes_le (last_user t) (last_user last) ≡ true =
-          elim (at_least last t (ap (λ (v : NewTable). is_lt (by_end last v)) (is ∙ get_or_default ts i d t lt) ∙ s.above (length front - 1) i t inside (omega arith) lt)) [
-            | inl less ↦ absurd (omega (arith, level, less))
-            | inr same ↦ same.1
-          ] in
+        elim (at_least last t (ap (λ (v : NewTable). is_lt (by_end last v)) (is ∙ get_or_default ts i d t lt) ∙ s.above (length front - 1) i t inside (omega arith) lt)) [
+          | inl less ↦ absurd (omega (arith, level, less))
+          | inr same ↦ same.1
+        ] in
         list_any_at (clash u) front (length front - 1) t inside (clash_from u last (record {
           deep = c.deep;
           same = level ∙ c.same;

@@ -10,7 +10,7 @@ use Rattle.bl_build.specs.Versions.{first_user, last_user}
 abbrev pub by_end : NewTable → NewTable → Ordering
 by_end a b = ordering_then (nat_cmp a.level b.level) (bytes_cmp (last_user a) (last_user b))
 
--- a is of a lower level, or ends no sooner than b begins
+-- a is of a greater level, or of the same one and ends no sooner than b begins
 abbrev pub reaches : NewTable → NewTable → Bool
 reaches a b = nat_lt b.level a.level || ((a.level == b.level) && bytes_le (first_user b) (last_user a))
 
@@ -18,10 +18,10 @@ reaches a b = nat_lt b.level a.level || ((a.level == b.level) && bytes_le (first
 abbrev pub covers : NewTable → NewTable → Bool
 covers a b = (a.level == b.level) && bytes_le (first_user a) (first_user b)
 
--- b is of an upper level, or ends and begins no later than a
+-- b is of a lesser level, or of the same one and ends and begins no later than a
 abbrev pub Falls : NewTable → NewTable → Type 0
 Falls a b = (b.level < a.level) ⊎ ((b.level ≡ a.level) × (bytes_le (last_user b) (last_user a) ≡ true) × (bytes_le (first_user b) (first_user a) ≡ true))
 
--- each table against all those behind it
+-- each table falls to all those behind it
 pub record IsFront (ts : List NewTable) : Type 0 where
   pub falls : (i j : ℕ) (d : NewTable) → i < j → j < length ts → Falls (slice_index_or ts i d) (slice_index_or ts j d)

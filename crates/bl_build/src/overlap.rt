@@ -18,8 +18,8 @@ const NUMBER_BYTES: usize = 8;
 
 /// The first added table that overlaps one of its level, from level 1 on, that is left or stands before it.
 ///
-/// No two tables are compared for each pair: where the added ones are not apart, the least number of them that are
-/// not is found by halving.
+/// Tables are never compared pair by pair: whether the added ones are apart is seen from their order, and where they
+/// are not, halving finds how many of the first ones are.
 pub(crate) fn first_overlap(
     alloc: Global,
     left: &[NewTable],
@@ -43,8 +43,11 @@ pub(crate) fn first_overlap(
     Ok(Some(added[apart].number))
 }
 
-// Whether no added table clashes with another one or with one that is left. The added ones are sorted by level and
-// end, and the last one first: a table is looked up among those that end no sooner, and so is each that is left.
+// Whether no added table clashes with another one or with one that is left.
+//
+// The added ones are sorted by level and greatest key, the last one first. Each is looked up among those before it,
+// and each table that is left among them all. Only the front of them is kept: a table is left out where one before it
+// covers it, since what clashes with it clashes with that one too.
 fn are_apart(alloc: Global, left: &[NewTable], added: &[NewTable]) -> Result<bool, BuildErr>
     ensures { IfOk result (λ apart. IsTrue apart ↔ (overlap_in left.now added.now ≡ None)) }
 {
@@ -79,7 +82,7 @@ fn are_of_level_0(added: &[NewTable]) -> bool
     true
 }
 
-// Whether the last table of a front begins no later.
+// Whether the last table of a front is of the same level and begins no later.
 fn is_covered(table: &NewTable, front: &[&NewTable]) -> bool
     ensures empty { length front.now ≡ 0 → result ≡ false }
     ensures last { 0 < length front.now → result ≡ covers_test (slice_index_or (map (λ t. t.now) front.now) (length front.now - 1) table.now) table.now }
@@ -100,8 +103,8 @@ fn any_clashes(tables: &[NewTable], front: &[&NewTable]) -> bool
     false
 }
 
-// Whether a table clashes with one of a front. Those that it may are the first ones, and of these the last begins
-// first.
+// Whether a table clashes with one of a front. Those that end too soon stand last, and of the others of its level the
+// last one begins first.
 fn clashes(table: &NewTable, front: &[&NewTable]) -> bool
     requires { IsFront (map (λ t. t.now) front.now) }
     ensures { result ≡ list_any (clash_test table.now) (map (λ u. u.now) front.now) }

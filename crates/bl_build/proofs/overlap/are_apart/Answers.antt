@@ -1,4 +1,4 @@
-use Rattle.std.proofs.Common.{◌≡◌, ◌∙◌, ℕ, ◌+◌, ◌-◌, ◌<◌, Bool, true, false, List, [], length, take, ◌≤◌, arith, rules, get_or, refl, subst, sym, ap, None, Some}
+use Rattle.std.proofs.Common.{◌≡◌, ◌∙◌, ℕ, ◌+◌, ◌-◌, ◌<◌, Bool, true, false, List, [], length, take, ◌≤◌, arith, rules, get_or, subst, sym, ap, Some}
 use Rattle.std.specs.Borrow.{Bor}
 use Rattle.std.specs.Prelude.{map}
 use Rattle.std.specs.List.{list_any}
@@ -28,7 +28,7 @@ returns-then-clashes c =
     let t : Bor NewTable = c.next-item.result in
     let p : IsPermutation added (map now_of items) =
     the_same added c.loop-table.tables.items c.sort_unstable_by.new.self.items items c.loop-table.table-index c.loop-table.invariant (omega (arith, c.loop-table-test.false))
-      c.sort_unstable_by.ensures.permutation c.deref-next-items.ensures.value in
+    c.sort_unstable_by.ensures.permutation c.deref-next-items.ensures.value in
     let hit : list_any (clash t.now) (map now_of c.loop-next.front.items) ≡ true =
     ap (λ (ts : List (Bor NewTable)). list_any (clash t.now) (map now_of ts)) (sym c.deref.ensures.value) ∙ sym c.clashes.ensures ∙ c.if-clashes.true in
     let some : first_overlap [] (map now_of items) ≡ Some t.now.number = stopped_at items (map now_of c.loop-next.front.items) c.loop-next.next-index t c.loop-next.invariant c.loop-next-test.true c.next-item.is hit in
@@ -64,7 +64,7 @@ returns c =
     let front : List NewTable = map now_of c.loop-next.front.items in
     let p : IsPermutation added (map now_of items) =
     the_same added c.loop-table.tables.items c.sort_unstable_by.new.self.items items c.loop-table.table-index c.loop-table.invariant (omega (arith, c.loop-table-test.false))
-      c.sort_unstable_by.ensures.permutation c.deref-next-items.ensures.value in
+    c.sort_unstable_by.ensures.permutation c.deref-next-items.ensures.value in
     let all = builds_all items front c.loop-next.next-index c.loop-next.invariant (omega (arith, c.loop-next-test.false)) in
     let any : c.any_clashes.result ≡ list_any (λ t. list_any (clash t) front) c.args.left.now =
     c.any_clashes.ensures ∙ ap (λ (ts : List (Bor NewTable)). list_any (λ t. list_any (clash t) (map now_of ts)) c.args.left.now) c.deref-2.ensures.value in
