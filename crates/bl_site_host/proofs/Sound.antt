@@ -1,9 +1,9 @@
 -- What each call leaves sound.
-use Rattle.std.proofs.Common.{◌≡◌, ◌≢◌, ℕ, ◌+◌, ◌<◌, List, [], ◌∷◌, ◌++◌, length, take, drop, set, All, slice_index_or, Option, None, Some, IfSome, Bool, true, Result, Ok, Err, is_ok, IsErr, OnOk, MatchResult, sym, subst, refl, inl, inr, arith}
+use Rattle.std.proofs.Common.{◌≡◌, ◌≢◌, ℕ, ◌+◌, ◌<◌, List, ◌∷◌, ◌++◌, length, take, drop, set, All, slice_index_or, Option, None, Some, IfSome, Bool, true, Result, Ok, Err, is_ok, IsErr, OnOk, MatchResult, sym, subst, refl, inl, inr}
 use Rattle.std.proofs.lemmas.List.Elements.{All-append, All-take, All-drop, All-set}
 use Rattle.std.specs.String.{string_bytes}
 use Rattle.bl_site.specs.Disk.{Name}
-use Rattle.bl_site_host.specs.Events.{Event, Looked, Listing, Opened, Made, Read, Wrote, SyncedFile, SyncedFolder, Renamed, Removed, SawNoOther, IsCareful, StandsUnder, IsOn}
+use Rattle.bl_site_host.specs.Events.{Event, Looked, Listing, Opened, Made, Read, Wrote, SyncedFile, SyncedFolder, Renamed, Removed, SawNoOther, StandsUnder, IsOn}
 use Rattle.bl_site_host.specs.Handles.{AllStand, IsSound, IsPlaceOf}
 use Rattle.std.specs.declared.io.Error.{Error}
 use Rattle.bl_site_host.specs.declared.faults.Fault.{Fault}

@@ -18,7 +18,8 @@ use Rattle.bl_store.specs.Folders.{IsNext, Stands}
 use Rattle.bl_store.specs.Laws.{BatchesAreOnce, CutsStand, StoresStand}
 use Rattle.bl_store.specs.Stored.{Stored, IsSynced, StandsOn, Makes}
 use Rattle.bl_store.specs.Cuts.{LeavesFound, BeforeBarrier, LeavesFirst, AreReadAsWritten}
-use Rattle.bl_store.proofs.CarryLemmas.{WasRead, opens}
+use Rattle.bl_store.specs.Replaying.{WasRead}
+use Rattle.bl_store.proofs.CarryLemmas.{opens}
 use Rattle.bl_store.proofs.CutLemmas.{CountsNow, at_end, found_then, cut_found, reads_so}
 use Rattle.bl_store.proofs.FolderLemmas.{same_name}
 
