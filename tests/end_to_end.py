@@ -3,7 +3,6 @@
 A case is a JSON object of tests/cases/*.json:
 
   name        what it is called
-  since       the first stage of the program at which it can run; until, the last one (both by name, see stages.json)
   words       the words that the program is given
   script      its lines: text, or {"pre", "fill", "count"} for a text and a character repeated
   start       what is done to the folder before: {"put": NAME, "hex": BYTES}, {"put": NAME, "frame": BYTES} (one full
@@ -12,42 +11,21 @@ A case is a JSON object of tests/cases/*.json:
   file_limit  how many bytes a file may get; a write past them fails
   told        the lines told
   status      the exit status
+  early       what standard error says of logs whose reading ends early
   names       all names left; sizes, the sizes of some files left; frames, the records of some logs left, in hexadecimal,
               each one full fragment
   unchanged   true where the folder is left as it was
 
-tests/stages.json has the stages in order, how many cases each one runs, and which stage the program has reached.
+hostile.py has more cases, as functions.
 """
 
 import json
 import os
-import resource
-import signal
-import struct
-import subprocess
 import sys
 import tempfile
 
-HERE = os.path.dirname(os.path.abspath(__file__))
-PROGRAM = os.path.join(HERE, "..", "crates", "bl_main", "out", "bl_main")
-SECONDS = 300
-
-
-def crc32c(data):
-    """Bit by bit, so that it shares nothing with the program's."""
-    crc = 0xFFFFFFFF
-    for byte in data:
-        crc ^= byte
-        for _ in range(8):
-            crc = (crc >> 1) ^ (0x82F63B78 if crc & 1 else 0)
-    return crc ^ 0xFFFFFFFF
-
-
-def frame(payload):
-    """One full fragment of a log."""
-    crc = crc32c(b"\x01" + payload)
-    masked = (((crc >> 15) | (crc << 17)) + 0xA282EAD8) & 0xFFFFFFFF
-    return struct.pack("<IHB", masked, len(payload), 1) + payload
+from common import HERE, PROGRAM, contents, frame, run
+from hostile import CASES
 
 
 def line(item):
@@ -58,19 +36,6 @@ def line(item):
 
 def text_of(lines):
     return "".join(line(item) + "\n" for item in lines).encode()
-
-
-def limit_files(size):
-    """Lets a write past so many bytes of a file fail, where by default it would end the program."""
-    signal.signal(signal.SIGXFSZ, signal.SIG_IGN)
-    resource.setrlimit(resource.RLIMIT_FSIZE, (size, size))
-
-
-def run(folder, words, script, file_limit=None):
-    before = None if file_limit is None else lambda: limit_files(file_limit)
-    return subprocess.run(
-        [PROGRAM, *words], cwd=folder, input=script, capture_output=True, timeout=SECONDS, check=False, preexec_fn=before
-    )
 
 
 def prepare(folder, steps):
@@ -89,16 +54,6 @@ def prepare(folder, steps):
             file.write(data)
 
 
-def contents(folder):
-    found = {}
-    for name in os.listdir(folder):
-        if not os.path.isfile(os.path.join(folder, name)):
-            continue
-        with open(os.path.join(folder, name), "rb") as file:
-            found[name] = file.read()
-    return found
-
-
 def faults(case, folder):
     """What differs from what the case wants."""
     prepare(folder, case.get("start", []))
@@ -110,7 +65,9 @@ def faults(case, folder):
         yield f"told {done.stdout[:200]!r}, not {wanted[:200]!r}"
     if done.returncode != case["status"]:
         yield f"status {done.returncode}, not {case['status']}"
-    if (done.stderr == b"") != (case["status"] == 0):
+    early = "".join(f"blob_shell: {text}\n" for text in case.get("early", [])).encode()
+    advice = done.stderr.removesuffix(early)
+    if not done.stderr.endswith(early) or (advice == b"") != (case["status"] == 0):
         yield f"standard error is {done.stderr[:200]!r} at status {done.returncode}"
     if case.get("unchanged") and after != before:
         yield f"the folder has {sorted(after)}, or other bytes than before"
@@ -125,30 +82,31 @@ def faults(case, folder):
             yield f"{name} is {after.get(name, b'').hex()}, not {data.hex()}"
 
 
+def of_a_case(case):
+    with tempfile.TemporaryDirectory() as folder:
+        return list(faults(case, folder))
+
+
 def main():
     if not os.path.exists(PROGRAM):
         sys.exit("the program is not built: run `rt ci` first")
-    with open(os.path.join(HERE, "stages.json"), encoding="utf-8") as file:
-        stages = json.load(file)
-    order = [stage["name"] for stage in stages["stages"]]
-    now = order.index(stages["reached"])
-    cases = []
+    tries = {}
     for name in sorted(os.listdir(os.path.join(HERE, "cases"))):
         with open(os.path.join(HERE, "cases", name), encoding="utf-8") as file:
-            cases += json.load(file)
-    due = [c for c in cases if order.index(c["since"]) <= now <= order.index(c.get("until", order[-1]))]
+            for case in json.load(file):
+                tries[case["name"]] = lambda case=case: of_a_case(case)
+    tries.update(CASES)
+    chosen = [name for name in tries if not sys.argv[1:] or any(word in name for word in sys.argv[1:])]
     passed = failed = 0
-    for case in due:
-        with tempfile.TemporaryDirectory() as folder:
-            found = list(faults(case, folder))
+    for name in chosen:
+        try:
+            found = tries[name]()
+        except Exception as error:  # A case that cannot be run has failed.
+            found = [f"{type(error).__name__}: {error}"]
         for fault in found:
-            print(f"{case['name']}: {fault}")
+            print(f"{name}: {fault}")
         failed += bool(found)
         passed += not found
-    listed = stages["stages"][now]["cases"]
-    if len(due) < listed:
-        print(f"{len(due)} cases are due, and {listed} are listed for {order[now]}")
-        failed += 1
     print(f"{passed} passed, {failed} failed")
     sys.exit(1 if failed else 0)
 

@@ -10,7 +10,7 @@ ghost use Rattle.bl_edit.specs.Found.{Finds, FindsBehind, behind_of, field_of, s
 use crate::edit::{BlobAddition, BlobGarbage, DeletedTable};
 use crate::options::Options;
 use crate::tag;
-use bl_code::Taker;
+use bl_code::{MAX_KEY, Taker};
 use byteorder::{ByteOrder, LittleEndian};
 
 const MAX_SIZE: u64 = 1 << 40;
@@ -24,7 +24,7 @@ const MAX_LEVEL: u32 = 6;
 // The bytes of an internal key behind the user key.
 const NUMBER_BYTES: usize = 8;
 
-const MAX_KEY_BYTES: usize = 65_543;
+const MAX_KEY_BYTES: usize = MAX_KEY + NUMBER_BYTES;
 
 /// A new table as its field has it.
 #[derive(Clone, Copy, Drop)]

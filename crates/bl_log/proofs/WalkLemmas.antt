@@ -4,6 +4,7 @@ use Rattle.std.specs.Option.{option_to_list}
 use Rattle.std.proofs.lemmas.Bool.{le-ltb, lt-ltb, cases_lt, cond-true, cond-false}
 use Rattle.std.proofs.lemmas.Nat.{from_le_bytes-to_le_bytes_2, from_le_bytes-to_le_bytes_4}
 use Rattle.std.proofs.Math.Seq.{take-append_seam}
+use Rattle.bl_code.proofs.Basics.{mask_fits}
 use Rattle.bl_code.specs.Numbers.{fixed16, fixed32}
 use Rattle.bl_code.specs.Crc.{crc32c, mask_of}
 use Rattle.bl_log.specs.Log.{Part, Step, Ends, Skips, at_end, Reads, joined, typed, room, part_of, sum_at, size_at, type_at, payload_at, step_at, behind, go_on, walk, size_of, whole_of, bytes_of, records_of, Gives, IsLog, records}
@@ -98,10 +99,6 @@ step_fragment place half bytes payload n part fits there size_is payload_is part
     ∙ cond-true _ _ _ (eq-eqb _ _ (sum_is ∙ ap (λ d. mask_of (crc32c (type_at bytes ∷ d))) (sym payload_is)))
     ∙ ap (λ d. joined part half d (7 + size_at bytes)) payload_is
     ∙ ap (λ k. joined part half payload (7 + k)) size_is
-
-mask_fits : (c : ℕ) → mask_of c < 2 ^ 32
-unfolding mask_of
-mask_fits c = omega arith
 
 pub length-fragment : (kind : ℕ) (payload : List ℕ) → length (fragment kind payload) ≡ 7 + length payload
 unfolding fragment fixed16 fixed32

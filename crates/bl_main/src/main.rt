@@ -1,51 +1,37 @@
 //! `blob_shell`: a script on standard input, its replies on standard output, and the store in the current folder.
 #![tactic(auto)]
 
-ghost use Rattle.std.specs.Prelude.{◌≡◌, ◌≢◌, MatchOption};
+ghost use Rattle.std.specs.Prelude.{◌≡◌};
 
+mod advice;
+mod logs;
+
+use advice::advice;
 use bl_shell::{Status, run};
-use bl_site_host::{HostSite, HostSource};
+use bl_site_host::{FolderLock, HostSite, HostSource, Streams};
+use logs::early_ends;
+use std::env;
+use std::io::{self, IsTerminal};
 use std::process::ExitCode;
-use std::{env, io};
-
-// What happened, and what the user can do: at each status but `Done`.
-fn advice(status: Status) -> Option<&'static str>
-    ensures { MatchOption result (status ≡ Status.Done) (λ _. status ≢ Status.Done) }
-{
-    match status {
-        Status::Done => None,
-        Status::Words => Some("no words are taken: give the script on standard input"),
-        Status::ReadFault => Some("the script could not be read on: what was told before is done"),
-        Status::TellFault => Some(
-            "a reply could not be written: look at where standard output goes",
-        ),
-        Status::DiskFault => Some(
-            "the folder could not be read or written: look at its disk and its rights, and start again",
-        ),
-        Status::OutOfMemory => Some(
-            "memory ran out: start again with more of it, or with smaller values",
-        ),
-        Status::Corrupt => Some(
-            "a file of the folder is damaged or none of its logs; the reply names it: start in another folder, or on a copy",
-        ),
-        Status::Full => Some(
-            "no sequence or no file number is left; the reply says which: copy what a scan tells to a new folder",
-        ),
-        Status::Long => Some("the script has more than 2^40 bytes: split it"),
-    }
-}
 
 fn main(rt: HostRuntime) -> ExitCode {
     let status = match start(&rt) {
         Ok(status) => status,
         // A word that is no UTF-8 is a word too.
-        Err(error) if error.kind() == io::ErrorKind::InvalidData => Status::Words,
-        Err(_) => Status::OutOfMemory,
+        Err(error) if error.kind() == io::ErrorKind::InvalidData => told(&rt, Status::Words),
+        Err(_) => told(&rt, Status::OutOfMemory),
     };
+    ExitCode::from(status.number())
+}
+
+// Says on standard error what the user can do.
+fn told(rt: &HostRuntime, status: Status) -> Status
+    ensures { result ≡ status }
+{
     if let Some(text) = advice(status) {
         let _ = eprintln!(rt; "blob_shell: {text}");
     }
-    ExitCode::from(status.number())
+    status
 }
 
 fn start(rt: &HostRuntime) -> io::Result<Status> {
@@ -53,7 +39,45 @@ fn start(rt: &HostRuntime) -> io::Result<Status> {
     for word in env::args(rt)?.skip(1) {
         words.push(word)?;
     }
+    if !words.is_empty() {
+        return Ok(told(rt, Status::Words));
+    }
+    let _streams = match Streams::guard(rt) {
+        Ok(streams) => streams,
+        Err(error) => {
+            let _ = eprintln!(rt; "blob_shell: the folder cannot be opened: {error}");
+            return Ok(Status::DiskFault);
+        }
+    };
+    let _lock = match FolderLock::take(rt) {
+        Ok(lock) => lock,
+        Err(error) => {
+            let _ = eprintln!(rt; "blob_shell: {error}");
+            return Ok(Status::DiskFault);
+        }
+    };
+    serve(rt, words.as_slice())
+}
+
+// Runs the script on the folder, which this process has for itself.
+fn serve(rt: &HostRuntime, words: &[String]) -> io::Result<Status> {
+    if rt.stdin().is_terminal() {
+        let _ = eprintln!(rt; "end with Ctrl-D; `sync` makes writes durable");
+    }
     let mut script = HostSource::start(rt.stdin());
     let mut site = HostSite::start(rt.clone()?);
-    Ok(run(rt.alloc(), words.as_slice(), &mut script, &mut site))
+    let status = run(rt.alloc(), words, &mut script, &mut site);
+    if let Some(failure) = site.last_failure() {
+        let _ = eprintln!(rt; "blob_shell: {failure}");
+    }
+    if let Some(error) = script.last_failure() {
+        let _ = eprintln!(rt; "blob_shell: read standard input: {error}");
+    }
+    let status = told(rt, status);
+    if let Ok(ends) = early_ends(rt.alloc(), &mut site) {
+        for end in ends.iter() {
+            let _ = eprintln!(rt; "blob_shell: {end}");
+        }
+    }
+    Ok(status)
 }

@@ -1,5 +1,5 @@
 -- A file that is read, step by step.
-use Rattle.std.proofs.Common.{◌≡◌, inl, inr, ℕ, ◌+◌, ◌-◌, ◌%◌, ◌^◌, ◌<◌, min, Bool, true, false, List, [], ◌∷◌, ◌++◌, length, take, drop, Option, Some, None, Result, Ok, Err, refl, sym, ◌∙◌, ap, subst, arith, append_assoc}
+use Rattle.std.proofs.Common.{◌≡◌, inl, inr, ℕ, ◌+◌, ◌-◌, ◌%◌, ◌^◌, ◌<◌, min, Bool, true, false, List, [], ◌∷◌, ◌++◌, length, take, drop, Option, Some, None, Result, Ok, refl, sym, ◌∙◌, ap, subst, arith, append_assoc}
 use Rattle.std.proofs.Math.Seq.{take-add}
 use Rattle.std.proofs.lemmas.List.{take_all, take-append-drop}
 use Rattle.std.specs.Prelude.{MatchOption, unwrap_or}
@@ -73,11 +73,6 @@ pub piece_fed : (name : Name) (file there : Option (List ℕ)) (begin offset nex
 piece_fed name file there begin offset next first old read new same so_far here fed found h =
     let P : Option (List ℕ) → Type 0 = λ f. Keeps name f offset next read new in
     subst P same fed found (here found (so_far found h))
-
--- what holds in each case holds after an error
-pub on_err : {T E : Type 0} (r : Result T E) (P : Type 0) → P → OnErr r P
-on_err (Ok x) P p = tt
-on_err (Err e) P p = p
 
 pub stays_found : (name : Name) (file : Option (List ℕ)) (begin offset : ℕ) (first old new : Reading) → new ≡ old → Keeps name file begin offset first old → Keeps name file begin offset first new
 stays_found name file begin offset first old new same so_far =

@@ -1,3 +1,4 @@
+mod DecodeLemmas
 mod LimitLemmas
 mod OperationLemmas
 mod PrintLemmas

@@ -1,9 +1,9 @@
 -- Words, as an index goes over a line.
-use Rattle.std.proofs.Common.{◌≡◌, ◌≢◌, ℕ, suc, ◌+◌, ◌-◌, ◌<◌, ◌≤◌, ◌⊎◌, inl, inr, List, [], ◌∷◌, ◌++◌, length, take, drop, get_or, refl, sym, ◌∙◌, ap, subst, arith, drop-cons, add-one, append-nil, length-take, length-drop, slice_range}
+use Rattle.std.proofs.Common.{◌≡◌, ◌≢◌, ℕ, suc, ◌+◌, ◌-◌, ◌<◌, ◌≤◌, ◌⊎◌, inl, inr, List, [], ◌∷◌, ◌++◌, length, drop, get_or, refl, sym, ◌∙◌, ap, subst, arith, drop-cons, add-one, append-nil, append_assoc, length-take, length-drop, slice_range}
 use Rattle.std.proofs.lemmas.Bool.{ne_eqb, cases_lt}
-use Rattle.std.proofs.lemmas.List.{drop_all, get_or-drop}
-use Rattle.std.proofs.Math.Seq.{take-suc}
-use Rattle.bl_script.specs.Lines.{word_of, words, words_in}
+use Rattle.std.proofs.lemmas.List.{drop_all}
+use Rattle.std.proofs.lemmas.List.Folds.{drop_split}
+use Rattle.bl_script.specs.Lines.{word_of, words, words_in, NoBlank}
 
 -- the list from an index on begins with its item
 from_item : (s : List ℕ) (i : ℕ) → i < length s → drop i s ≡ get_or s i 0 ∷ drop (i + 1) s
@@ -17,24 +17,16 @@ letter_first : (front rest : List ℕ) (b : ℕ) → b ≢ 32 → words_in front
 unfolding words_in
 letter_first front rest b letter = rw (ne_eqb b 32 letter) refl
 
--- a slice grows by the item behind it
-grown : (s : List ℕ) (a i : ℕ) → a ≤ i → i < length s → slice_range s a i ++ get_or s i 0 ∷ [] ≡ slice_range s a (i + 1)
-grown s a i le h =
-    let n : i + 1 - a ≡ suc (i - a) = omega arith in
-    let there : a + (i - a) ≡ i = omega arith in
-    let short : i - a < length (drop a s) = simp length-drop (omega arith) in
-    sym (ap (λ k. take k (drop a s)) n ∙ take-suc (drop a s) (i - a) 0 short
-    ∙ ap (λ x. take (i - a) (drop a s) ++ x ∷ []) (get_or-drop a s (i - a) 0 ∙ ap (λ k. get_or s k 0) there))
-
-pub letter_joins : (line : List ℕ) (start i : ℕ) → start ≤ i → i < length line → get_or line i 0 ≢ 32
-    → words_in (slice_range line start i) (drop i line) ≡ words_in (slice_range line start (i + 1)) (drop (i + 1) line)
-letter_joins line start i le h letter =
-    ap (words_in (slice_range line start i)) (from_item line i h)
-    ∙ letter_first (slice_range line start i) (drop (i + 1) line) (get_or line i 0) letter
-    ∙ ap (λ f. words_in f (drop (i + 1) line)) (grown line start i le h)
+-- bytes that are no blank join the word
+letters_join : (chunk front more : List ℕ) → NoBlank chunk → words_in front (chunk ++ more) ≡ words_in (front ++ chunk) more
+letters_join [] front more none = ap (λ f. words_in f more) (sym (append-nil front))
+letters_join (b ∷ bs) front more none =
+    letter_first front (bs ++ more) b (none 0 (omega arith))
+    ∙ letters_join bs (front ++ b ∷ []) more (λ k lt. none (suc k) (omega (arith, lt)))
+    ∙ ap (λ f. words_in f more) (append_assoc front (b ∷ []) bs)
 
 -- the word is whole at the line's end and at a blank
-pub word_ends : (front line : List ℕ) (i : ℕ) → (length line ≤ i) ⊎ (get_or line i 0 ≡ 32) → words_in front (drop i line) ≡ word_of front ++ words (drop i line)
+word_ends : (front line : List ℕ) (i : ℕ) → (length line ≤ i) ⊎ (get_or line i 0 ≡ 32) → words_in front (drop i line) ≡ word_of front ++ words (drop i line)
 unfolding words_in
 word_ends front line i ends =
     let P : List ℕ → Type 0 = λ rest. words_in front rest ≡ word_of front ++ words rest in
@@ -46,6 +38,13 @@ word_ends front line i ends =
         | inr h ↦ past h
       ]
     ]
+
+-- a line that begins with a word and ends, or has a blank, behind it
+pub first_word : (line : List ℕ) (start end : ℕ) → words line ≡ words (drop start line) → start ≤ end → NoBlank (slice_range line start end)
+    → (length line ≤ end) ⊎ (get_or line end 0 ≡ 32) → words line ≡ word_of (slice_range line start end) ++ words (drop end line)
+first_word line start end same le letters ends =
+    same ∙ ap words (drop_split line start end le) ∙ letters_join (slice_range line start end) [] (drop end line) letters
+    ∙ word_ends (slice_range line start end) line end ends
 
 pub no_word : (line : List ℕ) (start end : ℕ) → start ≤ end → end ≤ length line → (length line ≤ start) ⊎ (get_or line start 0 ≢ 32) → (length line ≤ end) ⊎ (get_or line end 0 ≡ 32)
     → words line ≡ word_of (slice_range line start end) ++ words (drop end line) → slice_range line start end ≡ [] → words line ≡ []

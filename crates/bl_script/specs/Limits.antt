@@ -1,6 +1,7 @@
 -- The limits that a command is within.
 use Rattle.std.specs.Prelude.{ℕ, ◌^◌, ◌<◌, ◌≤◌, List, length}
 use Rattle.std.specs.List.{AllByRecursion}
+use Rattle.bl_code.specs.declared.limits.TheConstants.{MAX_KEY, MAX_VALUE}
 use Rattle.bl_script.specs.declared.command.Operation.{Operation}
 use Rattle.bl_script.specs.declared.command.Operation.TheVariants as op
 use Rattle.bl_script.specs.declared.command.Command.{Command}
@@ -9,13 +10,13 @@ use Rattle.bl_script.specs.declared.command.Parsed.{Parsed}
 use Rattle.bl_script.specs.declared.command.Parsed.TheVariants.{Nothing, Refused, Go}
 use Rattle.bl_script.specs.Parsing.{parsed}
 
--- a key has 1 to 65,535 bytes, and a value at most 16,777,216
+-- the bounds of keys and values
 pub record IsKey (key : List ℕ) : Type 0 where
   pub some : 1 ≤ length key
-  pub no_longer : length key ≤ 65535
+  pub no_longer : length key ≤ MAX_KEY
 
 abbrev pub IsValue : List ℕ → Type 0
-IsValue value = length value ≤ 16777216
+IsValue value = length value ≤ MAX_VALUE
 
 abbrev pub IsOperation : Operation → Type 0
 IsOperation (op.Put key value) = IsKey key × IsValue value

@@ -1,5 +1,5 @@
 -- How a script is cut into lines, and a line into words.
-use Rattle.std.specs.Prelude.{ℕ, ◌-◌, ◌==◌, List, [], ◌∷◌, ◌++◌, length, take, slice_index, if◌then◌else◌}
+use Rattle.std.specs.Prelude.{◌≢◌, ◌<◌, ℕ, ◌-◌, ◌==◌, List, [], ◌∷◌, ◌++◌, length, take, slice_index, if◌then◌else◌}
 
 -- one 0x0D at a line's end is dropped
 abbrev pub without_return : List ℕ → List ℕ
@@ -38,3 +38,7 @@ words_in front (b ∷ bs) = (if b == 32 then word_of front else []) ++ words_in 
 
 abbrev pub words : List ℕ → List (List ℕ)
 words line = words_in [] line
+
+-- no byte is a 0x20
+abbrev pub NoBlank : List ℕ → Type 0
+NoBlank bytes = (k : ℕ) → k < length bytes → slice_index bytes k ≢ 32

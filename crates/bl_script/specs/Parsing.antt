@@ -3,6 +3,7 @@ use Rattle.std.specs.Prelude.{ℕ, ◌==◌, ◌||◌, nat_lt, Bool, false, List
 use Rattle.std.specs.List.{list_any}
 use Rattle.std.specs.Cmp.Lexicographic.{pointwise}
 use Rattle.percent_encoding.specs.Percent.{percent_decode}
+use Rattle.bl_code.specs.declared.limits.TheConstants.{MAX_KEY, MAX_VALUE}
 use Rattle.bl_script.specs.Lines.{words}
 use Rattle.bl_script.specs.declared.command.Operation.{Operation}
 use Rattle.bl_script.specs.declared.command.Operation.TheVariants as op
@@ -77,10 +78,10 @@ command_of verb rest =
 
 -- the limits
 abbrev pub is_long_key : List ℕ → Bool
-is_long_key key = nat_lt 65535 (length key)
+is_long_key key = nat_lt MAX_KEY (length key)
 
 abbrev pub is_long_value : List ℕ → Bool
-is_long_value value = nat_lt 16777216 (length value)
+is_long_value value = nat_lt MAX_VALUE (length value)
 
 abbrev pub puts_long_key : Operation → Bool
 puts_long_key (op.Put key value) = is_long_key key

@@ -3,33 +3,19 @@
 ghost use Rattle.std.specs.Prelude.{◌≡◌, ℕ, ◌<◌, ◌≤◌, [], ◌∷◌, ◌++◌, length, IfOk, IfSome, MatchOption, Some, None, codes};
 ghost use Rattle.std.specs.List.{list_any};
 ghost use Rattle.std.specs.Option.{option_map};
-ghost use Rattle.percent_encoding.specs.Percent.{percent_decode as decoded};
 ghost use Rattle.bl_script.specs.Lines.{words};
-ghost use Rattle.bl_script.specs.Parsing.{is, value, bound, operations, batch_of, scan_of, with_none, with_one, with_two, fixed_of, command_of, allowed, parsed, is_long_key, is_long_bound, puts_long_key, puts_long_value, has_long_key, has_long_value};
+ghost use Rattle.bl_script.specs.Parsing.{is, value, bound, operations, batch_of, scan_of, with_none, with_one, with_two, fixed_of, command_of, allowed, parsed, is_long_key, is_long_value, is_long_bound, puts_long_key, puts_long_value, has_long_key, has_long_value};
 ghost use Rattle.bl_script.specs.Limits.{IsWithinLimits, ParsedAreWithinLimits};
 
 use crate::command::{Command, Operation, Operations, Parsed, Refusal};
+use crate::decode::decode;
 use crate::error::ScriptErr;
 use crate::words::next_word;
-use bl_code::Octets;
-use percent_encoding::percent_decode;
+use bl_code::{MAX_KEY, MAX_VALUE, Octets};
 use std::alloc::Global;
 
 /// The most bytes of a line that is obeyed. A 0x0D at its end that is dropped does not count.
 pub const MAX_LINE: usize = 67_108_864;
-
-const MAX_KEY: usize = 65_535;
-
-const MAX_VALUE: usize = 16_777_216;
-
-// The bytes that a word stands for.
-fn decode(alloc: Global, word: &[u8]) -> Result<Octets, ScriptErr>
-    ensures { IfOk result (λ octets. octets ≡ decoded word.now) }
-{
-    let mut bytes = Vec::with_capacity(alloc, word.len())?;
-    percent_decode(word).append_to(&mut bytes)?;
-    Ok(Octets::from_vec(bytes))
-}
 
 // The value of a word that begins with =.
 fn value_of(alloc: Global, word: &[u8]) -> Result<Option<Octets>, ScriptErr>
@@ -245,6 +231,12 @@ fn is_long_key(key: &Octets) -> bool
     key.as_slice().len() > MAX_KEY
 }
 
+fn is_long_value(value: &Octets) -> bool
+    ensures { result ≡ is_long_value value.now }
+{
+    value.as_slice().len() > MAX_VALUE
+}
+
 fn is_long_bound(bound: &Option<Octets>) -> bool
     ensures { result ≡ is_long_bound bound.now }
 {
@@ -267,7 +259,7 @@ fn puts_long_value(operation: &Operation) -> bool
     ensures { result ≡ puts_long_value operation.now }
 {
     match operation {
-        Operation::Put { key: _, value } => value.as_slice().len() > MAX_VALUE,
+        Operation::Put { key: _, value } => is_long_value(value),
         Operation::Del { key: _ } => false,
     }
 }
@@ -304,7 +296,7 @@ fn has_long_value(command: &Command) -> bool
     ensures { result ≡ has_long_value command.now }
 {
     match command {
-        Command::Put { key: _, value } => value.as_slice().len() > MAX_VALUE,
+        Command::Put { key: _, value } => is_long_value(value),
         Command::Batch { operations } => some_long_value(operations.as_slice()),
         Command::Del { key: _ } => false,
         Command::Get { key: _ } => false,

@@ -29,7 +29,8 @@ pub fn print_value(alloc: Global, value: Option<&[u8]>) -> Result<String, Script
     match value {
         None => Ok(String::from_str(alloc, "none\n")?),
         Some(value) => {
-            let mut out = String::from_str(alloc, "value =")?;
+            let mut out = String::with_capacity(alloc, value.len() + 8)?;
+            out.push_str("value =")?;
             put_escaped(&mut out, value)?;
             out.push_str("\n")?;
             Ok(out)
@@ -37,18 +38,18 @@ pub fn print_value(alloc: Global, value: Option<&[u8]>) -> Result<String, Script
     }
 }
 
-/// One of the replies to `scan`: `pair KEY =VALUE`.
+/// One of the replies to `scan` follows: `pair KEY =VALUE`.
 ///
-/// Errors: `OutOfMemory` alone.
-pub fn print_pair(alloc: Global, key: &[u8], value: &[u8]) -> Result<String, ScriptErr>
-    ensures { IfOk result (λ text. string_bytes text ≡ pair_line key.now value.now) }
+/// Errors: `OutOfMemory` alone; what then follows in `out` is not said.
+pub fn append_pair(out: &mut String, key: &[u8], value: &[u8]) -> Result<(), ScriptErr>
+    ensures { OnOk result (string_bytes out.new ≡ string_bytes out.old ++ pair_line key.now value.now) }
 {
-    let mut out = String::from_str(alloc, "pair ")?;
-    put_escaped(&mut out, key)?;
+    out.push_str("pair ")?;
+    put_escaped(out, key)?;
     out.push_str(" =")?;
-    put_escaped(&mut out, value)?;
+    put_escaped(out, value)?;
     out.push_str("\n")?;
-    Ok(out)
+    Ok(())
 }
 
 /// The reply to a line that is refused.

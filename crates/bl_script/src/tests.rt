@@ -1,6 +1,6 @@
 //! Each public call once, with ample memory.
 
-use crate::{Command, Parsed, Refusal, parse_line, print_pair, print_refusal, print_value};
+use crate::{Command, Parsed, Refusal, append_pair, parse_line, print_refusal, print_value};
 use std::test::Fail;
 
 fn puts(parsed: &Parsed, key: &[u8], value: &[u8]) -> bool {
@@ -64,10 +64,9 @@ fn replies_are_printed(rt: HostRuntime) -> Result<(), Fail> {
         print_value(rt.alloc(), Some(b"\x00~ %".as_slice()))?.as_str(),
         "value =%00~%20%25\n"
     );
-    assert_eq!(rt;
-        print_pair(rt.alloc(), b"a", b"\xff")?.as_str(),
-        "pair a =%FF\n"
-    );
+    let mut pairs = String::from_str(rt.alloc(), "pair 1 =2\n")?;
+    append_pair(&mut pairs, b"a", b"\xff")?;
+    assert_eq!(rt; pairs.as_str(), "pair 1 =2\npair a =%FF\n");
     assert_eq!(rt; print_refusal(Refusal::Key), b"refused key\n".as_slice());
     Ok(())
 }

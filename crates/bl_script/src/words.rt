@@ -1,7 +1,9 @@
 //! Words of a line.
 
-ghost use Rattle.std.specs.Prelude.{◌≡◌, ℕ, ◌+◌, ◌<◌, ◌≤◌, [], ◌∷◌, ◌++◌, length, MatchOption};
-ghost use Rattle.bl_script.specs.Lines.{without_return, word_of, words};
+ghost use Rattle.std.specs.Prelude.{◌≡◌, ◌⊎◌, ℕ, ◌+◌, ◌<◌, ◌≤◌, [], ◌∷◌, ◌++◌, length, slice_index, slice_range, MatchOption};
+ghost use Rattle.bl_script.specs.Lines.{without_return, word_of, words, NoBlank};
+
+use memchr::memchr;
 
 /// The line, one 0x0D at its end dropped.
 pub fn without_return(line: &[u8]) -> &[u8]
@@ -15,6 +17,20 @@ pub fn without_return(line: &[u8]) -> &[u8]
     }
 }
 
+// The first blank from a place on; the line's end, where there is none.
+fn word_end(line: &[u8], start: usize) -> usize
+    requires { start ≤ length line.now }
+    ensures from { start ≤ result }
+    ensures within { result ≤ length line.now }
+    ensures letters { NoBlank (slice_range line.now start result) }
+    ensures ends { (length line.now ≤ result) ⊎ (slice_index line.now result ≡ 32) }
+{
+    match memchr(b' ', &line[start..]) {
+        Some(count) => start + count,
+        None => line.len(),
+    }
+}
+
 // The first word, if there is one, and what is behind it.
 fn word_and_rest(line: &[u8]) -> (&[u8], &[u8])
     ensures words { words line.now ≡ word_of result.0.now ++ words result.1.now }
@@ -23,13 +39,10 @@ fn word_and_rest(line: &[u8]) -> (&[u8], &[u8])
 {
     let n = line.len();
     let mut start = 0;
-    'blanks: while start < n && line[start] == 32 {
+    'blanks: while start < n && line[start] == b' ' {
         start += 1;
     }
-    let mut end = start;
-    'letters: while end < n && line[end] != 32 {
-        end += 1;
-    }
+    let end = word_end(line, start);
     (&line[start..end], &line[end..])
 }
 

@@ -8,10 +8,10 @@ use Rattle.bl_entry.specs.Revisions.{Map}
 use Rattle.bl_script.specs.declared.command.Command.TheVariants as command
 use Rattle.bl_script.specs.declared.command.Parsed.{Parsed}
 use Rattle.bl_script.specs.declared.command.Parsed.TheVariants.{Nothing, Refused, Go}
-use Rattle.bl_shell.specs.Machine.{State, Line, Runs, writes_of, reply_of, orders, orders_of, told_by, written_by, operations_in, reopens, reopens_in, Began, Fits}
+use Rattle.bl_shell.specs.Machine.{State, Line, Runs, writes_of, reply_of, orders, orders_of, told_by, written_by, operations_in, reopens, reopens_in, Start, Fits}
 use Rattle.bl_shell.specs.Synced.{whole_within}
 use Rattle.bl_shell.specs.Carried.{TellsFront}
-use Rattle.bl_shell.specs.Telling.{Begins, HasBegun}
+use Rattle.bl_shell.specs.Telling.{IsStartOf, HasBegun}
 use Rattle.bl_shell.proofs.HistoryLemmas.{runs_then, goes, line_of, next_of, step_of, written_more, operations_more, reopens_more, reopens_joined}
 use Rattle.bl_shell.proofs.SyncedLemmas.{whole_front}
 
@@ -74,14 +74,14 @@ none_reached (y ∷ more) a b (mid, step, runs) = by_length (none_reached more m
         quiet_then y _ a mid (step.wrote_is ∙ silent_writes y.order a.now none) (silent_opens y.order a.now none) (subst Q (sym zero) quiet)
 
 -- quiet lines behind some change nothing
-fits_still : (began : Began) (done more : List Line) → Fits began done → AreQuiet more → Fits began (done ++ more)
+fits_still : (began : Start) (done more : List Line) → Fits began done → AreQuiet more → Fits began (done ++ more)
 fits_still began done more fits quiet = record {
   sequences = omega (arith, fits.sequences, quiet.sequences, operations_more (written_by done) (written_by more), ap operations_in (flat_map-append (λ (l : Line). l.wrote) done more));
   numbers = omega (arith, fits.numbers, quiet.numbers, reopens_joined done more);
 }
 
 -- the lines that lie whole in what was told, up to the one in hand
-reached_fit : (began : Began) (done more : List Line) (line : Line) (a b : State) (k : ℕ) → k ≤ length line.told → Runs a (line ∷ more) b → Fits began done → (k ≡ 0) ⊎ Fits began (done ++ line ∷ [])
+reached_fit : (began : Start) (done more : List Line) (line : Line) (a b : State) (k : ℕ) → k ≤ length line.told → Runs a (line ∷ more) b → Fits began done → (k ≡ 0) ⊎ Fits began (done ++ line ∷ [])
     → Fits began (done ++ whole_within k (line ∷ more))
 unfolding whole_within
 reached_fit began done more line a b k le (mid, step, runs) fits (inl zero) =
@@ -98,7 +98,7 @@ reached_fit began done more line a b k le (mid, step, runs) fits (inr room) = by
         subst Q zero (subst R (append_assoc done (line ∷ []) (whole_within 0 more)) (fits_still began (done ++ line ∷ []) (whole_within 0 more) room (none_reached more mid b runs)))
 
 -- some lines are done, and of what the others tell a front is told
-begun : (folder : Folder) (began : Began) (script told0 told : List ℕ) (done more : List Line) (state last : State) (front rest : List ℕ) → Begins folder began
+begun : (folder : Folder) (began : Start) (script told0 told : List ℕ) (done more : List Line) (state last : State) (front rest : List ℕ) → IsStartOf folder began
     → orders_of (done ++ more) ≡ orders script → Runs (record { now = began.now }) done state → Runs state more last
     → front ++ rest ≡ told_by more → told ≡ told0 ++ (told_by done ++ front) → Fits began (done ++ whole_within (length front) more) → HasBegun folder script told0 told
 begun folder began script told0 told done more state last front rest begins given first second whole is fits = record {
@@ -118,7 +118,7 @@ begun folder began script told0 told done more state last front rest begins give
 }
 
 -- the run breaks off between two lines
-pub breaks_between : (folder : Folder) (began : Began) (script told0 told : List ℕ) (done : List Line) (state : State) (given : List Parsed) → Begins folder began → Fits began done
+pub breaks_between : (folder : Folder) (began : Start) (script told0 told : List ℕ) (done : List Line) (state : State) (given : List Parsed) → IsStartOf folder began → Fits began done
     → orders script ≡ orders_of done ++ given → Runs (record { now = began.now }) done state → told ≡ told0 ++ told_by done → HasBegun folder script told0 told
 breaks_between folder began script told0 told done state given begins fits cut runs is =
     let g = goes given state in
@@ -127,7 +127,7 @@ breaks_between folder began script told0 told done state given begins fits cut r
     (is ∙ ap (λ t. told0 ++ t) (sym (append-nil (told_by done)))) (fits_still began done _ fits (none_reached g.history state g.last g.runs))
 
 -- The run breaks off in a line, of whose reply a front is told: nothing, or the line passes no limit.
-pub breaks_in : (folder : Folder) (began : Began) (script told0 told told_next : List ℕ) (done : List Line) (state : State) (order : Parsed) (given : List Parsed) → Begins folder began → Fits began done
+pub breaks_in : (folder : Folder) (began : Start) (script told0 told told_next : List ℕ) (done : List Line) (state : State) (order : Parsed) (given : List Parsed) → IsStartOf folder began → Fits began done
     → (told_next ≡ told) ⊎ Fits began (done ++ line_of order state ∷ [])
     → orders script ≡ orders_of done ++ (order ∷ given) → Runs (record { now = began.now }) done state → told ≡ told0 ++ told_by done
     → TellsFront (reply_of order state.now) told told_next → HasBegun folder script told0 told_next
@@ -149,7 +149,7 @@ breaks_in folder began script told0 told told_next done state order given begins
     (reached_fit began done g.history line state g.last k short (next_of order state, step_of order state, g.runs) fits reached)
 
 -- the line in hand passes no limit of the store that is there
-pub next_fits : (began : Began) (done : List Line) (state : State) (order : Parsed) (last number : ℕ) → last ≡ began.last + operations_in (written_by done) → number ≡ began.number + reopens_in done
+pub next_fits : (began : Start) (done : List Line) (state : State) (order : Parsed) (last number : ℕ) → last ≡ began.last + operations_in (written_by done) → number ≡ began.number + reopens_in done
     → last + operations_in (writes_of order) < 2 ^ 56 → number + reopens order < 10 ^ 15 → Fits began (done ++ line_of order state ∷ [])
 unfolding line_of
 next_fits began done state order last number last_is number_is sequences numbers =
@@ -160,7 +160,7 @@ next_fits began done state order last number last_is number_is sequences numbers
     }
 
 -- all replies were told
-pub all_within : (began : Began) (history : List Line) → Fits began history → Fits began (whole_within (length (told_by history)) history)
+pub all_within : (began : Start) (history : List Line) → Fits began history → Fits began (whole_within (length (told_by history)) history)
 unfolding whole_within
 all_within began history fits =
     let R : List Line → Type 0 = λ ls. Fits began ls in

@@ -1,5 +1,5 @@
 -- What the shell carries, from piece to piece of the script.
-use Rattle.std.proofs.Common.{◌≡◌, ◌⊎◌, inl, inr, ℕ, ◌+◌, Bool, true, false, cond, List, [], ◌∷◌, ◌++◌, length, map, refl, sym, ◌∙◌, ap, subst, append_assoc, append-nil, length-append, arith}
+use Rattle.std.proofs.Common.{◌≡◌, ◌⊎◌, inl, inr, ℕ, ◌+◌, List, [], ◌∷◌, ◌++◌, length, map, refl, sym, ◌∙◌, ap, subst, append_assoc, append-nil, arith}
 use Rattle.std.proofs.lemmas.List.{map-append}
 use Rattle.bl_site.specs.Disk.{Folder, Disk, Cut, IsCut, folder_of}
 use Rattle.bl_site.specs.Calls.{LeavesOnly}
@@ -9,36 +9,33 @@ use Rattle.bl_script.specs.declared.command.Parsed.{Parsed}
 use Rattle.bl_script.specs.declared.command.Parsed.TheVariants.{Nothing}
 use Rattle.bl_script.specs.Lines.{lines_in, whole_lines_in, without_return}
 use Rattle.bl_script.specs.Parsing.{parsed}
-use Rattle.bl_store.specs.Laws.{CutsStand, BatchesMakeMap}
+use Rattle.bl_store.specs.Laws.{CutsStand, StoresStand, BatchesMakeMap}
 use Rattle.bl_store.specs.Stored.{Stored}
 use Rattle.bl_shell.specs.declared.lines.LineInHand.{LineInHand}
-use Rattle.bl_shell.specs.Machine.{Line, orders, orders_of, reply_of, told_by, written_by, operations_in, numbered, reopens, reopens_in, Began}
-use Rattle.bl_shell.specs.Carried.{state_of, Holds, Stays, TellsFront, Obeyed, Passes, HasRoom, Starts, Steady, Carried, CutIn, NoLineEnd}
+use Rattle.bl_shell.specs.Machine.{Line, orders, orders_of, reply_of, told_by, written_by, numbered, reopens_in, Start}
+use Rattle.bl_shell.specs.Carried.{state_of, Holds, IsServable, TellsFront, Obeyed, Passes, HasRoom, StandsAtStart, Steady, Carried, CutIn, NoLineEnd}
 use Rattle.bl_shell.specs.Cuts.{Stops}
-use Rattle.bl_shell.specs.Synced.{syncs, before_sync, CutOf}
-use Rattle.bl_shell.specs.Telling.{Begins, HasBegun, HasTaken}
-use Rattle.bl_shell.proofs.HistoryLemmas.{runs_then, told_more, written_more, reopens_more, operations_more, numbered_more}
+use Rattle.bl_shell.specs.Synced.{before_sync, CutOf}
+use Rattle.bl_shell.specs.Telling.{IsStartOf, HasBegun, HasFaltered, HasTaken}
+use Rattle.bl_shell.proofs.HistoryLemmas.{told_more}
 use Rattle.bl_shell.proofs.BreakLemmas.{breaks_between, breaks_in, next_fits}
 use Rattle.bl_shell.proofs.LimitLemmas.{lines_fit}
+use Rattle.bl_shell.proofs.LeaveLemmas.{Reached, reached_more, leaves_logs}
 use Rattle.bl_shell.proofs.LineLemmas.{letters_stay, letters_join, line_ends, whole_ends, no_whole}
 use Rattle.bl_shell.proofs.CutLemmas.{first_stays, whole_stays, cut_between, cut_in_line, cut_refused, cut_of_more, cut_of_given}
-use Rattle.bl_shell.proofs.StayLemmas.{keeps_then, none_numbered, no_operations}
-use Rattle.bl_shell.proofs.SyncedLemmas.{no_syncs, before_sync_more, numbered-length}
+use Rattle.bl_shell.proofs.StayLemmas.{none_numbered, no_operations}
+use Rattle.bl_shell.proofs.SyncedLemmas.{no_syncs}
 
-least_more : (b : Bool) (batches least found after writes before : ℕ) → batches ≡ found + writes → least ≡ found + before → after ≡ cond b writes before → cond b batches least ≡ found + after
-least_more true batches least found after writes before all same is = all ∙ ap (λ n. found + n) (sym is)
-least_more false batches least found after writes before all same is = same ∙ ap (λ n. found + n) (sym is)
-
-starts_stays : (began : Began) (folder : Folder) (store : Stored) (disk : Disk) → Starts began folder store disk
-    → Stays store (began.batches ++ numbered (began.last + 1) (written_by [])) (length began.batches + before_sync []) disk
+starts_stays : (began : Start) (folder : Folder) (store : Stored) (disk : Disk) → StandsAtStart began folder store disk
+    → IsServable store (began.batches ++ numbered (began.last + 1) (written_by [])) (length began.batches + before_sync []) disk
 starts_stays began folder store disk s =
-    let P : List Batch → Type 0 = λ bs. Stays store bs (length began.batches + before_sync []) disk in
-    let L : ℕ → Type 0 = λ least. Stays store began.batches least disk in
+    let P : List Batch → Type 0 = λ bs. IsServable store bs (length began.batches + before_sync []) disk in
+    let L : ℕ → Type 0 = λ least. IsServable store began.batches least disk in
     let none : length began.batches ≡ length began.batches + before_sync [] = omega (arith, no_syncs) in
     subst P (sym (ap (λ more. began.batches ++ more) (none_numbered (began.last + 1)) ∙ append-nil began.batches)) (subst L none s.stays)
 
 -- before the first byte
-pub starts : (began : Began) (folder : Folder) (told : List ℕ) (store : Stored) (line : LineInHand) (disk : Disk) (steady : (Cut → Type 0) → Type 0) → Starts began folder store disk → Holds line []
+pub starts : (began : Start) (folder : Folder) (told : List ℕ) (store : Stored) (line : LineInHand) (disk : Disk) (steady : (Cut → Type 0) → Type 0) → StandsAtStart began folder store disk → Holds line []
     → steady (CutOf began [] told) → Carried began folder told [] store line disk told steady
 unfolding reopens_in
 starts began folder told store line disk steady s held cuts = record {
@@ -58,12 +55,12 @@ starts began folder told store line disk steady s held cuts = record {
 }
 
 -- what a cut finds there
-pub cut_at_start : CutsStand → BatchesMakeMap → (began : Began) (folder : Folder) (store : Stored) (disk : Disk) (told : List ℕ) (c : Cut) → Starts began folder store disk → IsCut disk told c → CutOf began [] told c
+pub cut_at_start : CutsStand → BatchesMakeMap → (began : Start) (folder : Folder) (store : Stored) (disk : Disk) (told : List ℕ) (c : Cut) → StandsAtStart began folder store disk → IsCut disk told c → CutOf began [] told c
 cut_at_start law make began folder store disk told c s is =
     cut_between make began told s.made [] store told c (ap (λ m. record { now = m }) s.now_is) (sym (append-nil told)) is.told_is (whole_stays law store _ _ disk told c (starts_stays began folder store disk s) is)
     (first_stays law store _ _ disk told c (starts_stays began folder store disk s) is)
 
-module _ {D : Type 0} (certain : D → Type 0) (clock : D → ℕ) (left_since : D → ℕ → Cut → Type 0) (make : BatchesMakeMap) (began : Began) (folder : Folder) (told0 script : List ℕ)
+module _ {D : Type 0} (certain : D → Type 0) (clock : D → ℕ) (left_since : D → ℕ → Cut → Type 0) (make : BatchesMakeMap) (began : Start) (folder : Folder) (told0 script : List ℕ)
     (store : Stored) (line : LineInHand) (disk : Disk) (told : List ℕ) (start old new : D) (k : Carried began folder told0 script store line disk told (Steady certain clock left_since start old)) where
   -- the cuts up to the end of the line in hand
   pub line_cuts : (order : Parsed) → LeavesOnly clock left_since old new (CutIn order store (began.batches ++ numbered (began.last + 1) (written_by k.history)) (length began.batches + before_sync k.history) told)
@@ -80,13 +77,13 @@ module _ {D : Type 0} (certain : D → Type 0) (clock : D → ℕ) (left_since :
       let P : Cut → Type 0 = CutOf began (orders_of k.history) told0 in
       joins clock left_since start old new P k.cuts.leaves (widened clock left_since old new _ P (λ c i. cut_refused make began told0 k.made k.history store told c k.runs k.told_is i) leaves)
 
-module _ {D : Type 0} (certain : D → Type 0) (clock : D → ℕ) (left_since : D → ℕ → Cut → Type 0) (began : Began) (folder : Folder) (told0 script : List ℕ) where
+module _ {D : Type 0} (certain : D → Type 0) (clock : D → ℕ) (left_since : D → ℕ → Cut → Type 0) (began : Start) (folder : Folder) (told0 script : List ℕ) where
   -- so far, of a script that goes on
   pub cuts_so_far : (store : Stored) (line : LineInHand) (disk : Disk) (told : List ℕ) (start now : D) (k : Carried began folder told0 script store line disk told (Steady certain clock left_since start now)) (more : List ℕ)
       → LeavesOnly clock left_since start now (CutOf began (orders (script ++ more)) told0)
   cuts_so_far store line disk told start now k more = widened clock left_since start now _ _ (λ c o. cut_of_given began (orders_of k.history) (orders (script ++ more)) (map parsed (lines_in k.front more)) told0 c (k.cut more) o) k.cuts.leaves
 
-module _ (began : Began) (folder : Folder) (told0 : List ℕ) (steady : (Cut → Type 0) → Type 0) where
+module _ (began : Start) (folder : Folder) (told0 : List ℕ) (steady : (Cut → Type 0) → Type 0) where
   -- bytes in which no line ends
   pub pushed : (script : List ℕ) (store : Stored) (line line_next : LineInHand) (chunk : List ℕ) (disk : Disk) (told : List ℕ)
       → ((front : List ℕ) → Holds line front → Holds line_next (front ++ chunk)) → NoLineEnd chunk
@@ -114,6 +111,9 @@ module _ (began : Began) (folder : Folder) (told0 : List ℕ) (steady : (Cut →
       → map parsed (lines_in [] (script ++ 10 ∷ more)) ≡ orders_of c.history ++ (parsed (without_return c.front) ∷ map parsed (lines_in [] more))
   here script store line disk told more c = c.cut (10 ∷ more) ∙ ap (λ ls. orders_of c.history ++ map parsed ls) (line_ends c.front more)
 
+  reached : (script : List ℕ) (store : Stored) (line : LineInHand) (disk : Disk) (told : List ℕ) (c : Carried began folder told0 script store line disk told steady) → Reached began folder c.history store disk
+  reached script store line disk told c = record { runs = c.runs; stays = c.stays; last_is = c.last_is; number_is = c.number_is; keeps = c.keeps }
+
   -- the line in hand is obeyed
   pub line_obeyed : (script : List ℕ) (store next : Stored) (line line_next : LineInHand) (order : Parsed) (disk disk_next : Disk) (told told_next : List ℕ) (steady_next : (Cut → Type 0) → Type 0)
       → ((front : List ℕ) → Holds line front → order ≡ parsed (without_return front)) → Holds line_next [] → Obeyed order store next disk disk_next told told_next
@@ -122,12 +122,7 @@ module _ (began : Began) (folder : Folder) (told0 : List ℕ) (steady : (Cut →
   line_obeyed script store next line line_next order disk disk_next told told_next steady_next is empty o c cuts =
       let ordered : o.line.order ≡ parsed (without_return c.front) = o.ordered ∙ is c.front c.held in
       let grown : orders_of (c.history ++ o.line ∷ []) ≡ orders_of c.history ++ (o.line.order ∷ []) = map-append (λ (l : Line). l.order) c.history (o.line ∷ []) in
-      let found = length began.batches in
-      let least = found + before_sync c.history in
-      let B : List Batch → Type 0 = λ bs. Stays next bs (found + before_sync (c.history ++ o.line ∷ [])) disk_next in
-      let writes = written_by c.history in
-      let n = began.last + 1 in
-      let first : store.last + 1 ≡ n + operations_in writes = omega (arith, c.last_is) in
+      let m = reached_more began folder c.history order store next disk disk_next told told_next o (reached script store line disk told c) in
       record {
         history = c.history ++ o.line ∷ [];
         front = [];
@@ -144,27 +139,19 @@ module _ (began : Began) (folder : Folder) (told0 : List ℕ) (steady : (Cut →
             ∙ ap (λ (x : Parsed). orders_of c.history ++ (x ∷ map parsed (lines_in [] more))) (sym ordered)
             ∙ sym (append_assoc (orders_of c.history) (o.line.order ∷ []) (map parsed (lines_in [] more)))
             ∙ ap (λ xs. xs ++ map parsed (lines_in [] more)) (sym grown);
-        runs = runs_then c.history (o.line ∷ []) (record { now = began.now }) (state_of store) (state_of next) c.runs (state_of next, o.step, refl);
+        runs = m.runs;
         told_is = o.told_is ∙ ap (λ t. t ++ o.line.told) c.told_is ∙ append_assoc told0 (told_by c.history) o.line.told ∙ ap (λ t. told0 ++ t) (sym (told_more c.history o.line));
-        stays = subst B
-            (ap (λ k. (began.batches ++ numbered n writes) ++ numbered k o.line.wrote) first
-            ∙ append_assoc began.batches (numbered n writes) (numbered (n + operations_in writes) o.line.wrote)
-            ∙ ap (λ bs. began.batches ++ bs) (sym (ap (numbered n) (written_more c.history o.line) ∙ numbered_more n writes o.line.wrote)))
-            (let L : ℕ → Type 0 = λ l. Stays next ((began.batches ++ numbered n writes) ++ numbered (store.last + 1) o.line.wrote) l disk_next in
-            subst L (least_more (syncs order) (length (began.batches ++ numbered n writes)) least found (before_sync (c.history ++ o.line ∷ [])) (length writes) (before_sync c.history)
-            (length-append began.batches (numbered n writes) ∙ ap (λ m. found + m) (numbered-length n writes)) refl
-            (before_sync_more c.history o.line ∙ ap (λ (x : Parsed). cond (syncs x) (length writes) (before_sync c.history)) o.ordered))
-            (o.stays (began.batches ++ numbered n writes) least c.stays));
+        stays = m.stays;
         made = c.made;
         cuts = let P : List Parsed → Type 0 = λ g. steady_next (CutOf began g told0) in
             subst P (sym (grown ∙ ap (λ (x : Parsed). orders_of c.history ++ (x ∷ [])) o.ordered)) cuts;
-        last_is = omega (arith, o.last_is, c.last_is, ap operations_in (written_more c.history o.line), operations_more writes o.line.wrote);
-        number_is = omega (arith, o.number_is, c.number_is, reopens_more c.history o.line, ap reopens o.ordered);
-        keeps = keeps_then began.number store.log.number folder (folder_of disk) (folder_of disk_next) (omega (arith, c.number_is)) c.keeps o.keeps;
+        last_is = m.last_is;
+        number_is = m.number_is;
+        keeps = m.keeps;
       }
 
   -- the run breaks off as the line in hand is obeyed
-  pub line_broken : (script more : List ℕ) (store : Stored) (line : LineInHand) (order : Parsed) (disk : Disk) (told told_next : List ℕ) → Begins folder began
+  pub line_broken : (script more : List ℕ) (store : Stored) (line : LineInHand) (order : Parsed) (disk : Disk) (told told_next : List ℕ) → IsStartOf folder began
       → ((front : List ℕ) → Holds line front → order ≡ parsed (without_return front)) → TellsFront (reply_of order store.now) told told_next → (told_next ≡ told) ⊎ HasRoom order store
       → Carried began folder told0 script store line disk told steady → HasBegun folder (script ++ 10 ∷ more) told0 told_next
   line_broken script more store line order disk told told_next begins is tells room c =
@@ -174,10 +161,11 @@ module _ (began : Began) (folder : Folder) (told0 : List ℕ) (steady : (Cut →
       c.runs c.told_is tells
 
   -- the line in hand would pass a limit
-  pub line_full : (script more : List ℕ) (store : Stored) (line : LineInHand) (order : Parsed) (disk : Disk) (told told_next : List ℕ) (limit : ℕ) (since : (Cut → Type 0) → Type 0) → Begins folder began
+  pub line_full : StoresStand → BatchesMakeMap → (script more : List ℕ) (store : Stored) (line : LineInHand) (order : Parsed) (disk : Disk) (after : Folder) (told told_next : List ℕ) (limit : ℕ) (since : (Cut → Type 0) → Type 0)
+      → IsStartOf folder began → after ≡ folder_of disk
       → ((front : List ℕ) → Holds line front → order ≡ parsed (without_return front)) → Passes order store.last store.log.number limit → told_next ≡ told
-      → (c : Carried began folder told0 script store line disk told steady) → since (CutOf began (orders_of c.history) told0) → Stops folder (script ++ 10 ∷ more) told0 told_next limit since
-  line_full script more store line order disk told told_next limit since begins is passes same c cuts =
+      → (c : Carried began folder told0 script store line disk told steady) → since (CutOf began (orders_of c.history) told0) → Stops folder after (script ++ 10 ∷ more) told0 told_next limit since
+  line_full stand make script more store line order disk after told told_next limit since begins stays is passes same c cuts =
       let P : ℕ → Type 0 = λ l. Passes order l (began.number + reopens_in c.history) limit in
       let Q : ℕ → Type 0 = λ n. Passes order store.last n limit in
       record {
@@ -194,6 +182,7 @@ module _ (began : Began) (folder : Folder) (told0 : List ℕ) (steady : (Cut →
           fits = lines_fit began c.history store _ _ disk c.stays c.last_is c.number_is;
           passes = subst P c.last_is (subst Q c.number_is passes);
           replies_are = refl;
+          leaves = leaves_logs stand make began folder after c.history store disk stays (reached script store line disk told c);
         };
         told_is = same ∙ c.told_is;
         cuts = cuts;
@@ -206,16 +195,41 @@ module _ (began : Began) (folder : Folder) (told0 : List ℕ) (steady : (Cut →
       here script store line disk told more c ∙ ap (λ (x : Parsed). orders_of c.history ++ (x ∷ map parsed (lines_in [] more))) (sym (is c.front c.held))
       ∙ sym (append_assoc (orders_of c.history) (order ∷ []) (map parsed (lines_in [] more)))
 
+  -- it was obeyed, and its reply could not be told whole
+  pub line_faltered : StoresStand → BatchesMakeMap → (script more : List ℕ) (store next : Stored) (line : LineInHand) (order : Parsed) (disk disk_next : Disk) (told told_next : List ℕ) → IsStartOf folder began
+      → ((front : List ℕ) → Holds line front → order ≡ parsed (without_return front)) → Obeyed order store next disk disk_next told (told ++ reply_of order store.now)
+      → TellsFront (reply_of order store.now) told told_next → Carried began folder told0 script store line disk told steady → HasFaltered folder (folder_of disk_next) (script ++ 10 ∷ more) told0 told_next
+  line_faltered stand make script more store next line order disk disk_next told told_next begins is o tells c =
+      let m = reached_more began folder c.history order store next disk disk_next told (told ++ reply_of order store.now) o (reached script store line disk told c) in
+      let grown : orders_of (c.history ++ o.line ∷ []) ≡ orders_of c.history ++ (o.line.order ∷ []) = map-append (λ (l : Line). l.order) c.history (o.line ∷ []) in
+      let says : reply_of order store.now ≡ o.line.told = sym (o.step.told_is ∙ ap (λ (x : Parsed). reply_of x store.now) o.ordered) in
+      let P : List ℕ → Type 0 = λ b. TellsFront b (told0 ++ told_by c.history) told_next in
+      let Q : List ℕ → Type 0 = λ t. TellsFront (reply_of order store.now) t told_next in
+      record {
+        began = began;
+        begins = begins;
+        history = c.history;
+        line = o.line;
+        rest = map parsed (lines_in [] more);
+        last = state_of next;
+        orders_are = orders_here script store line order disk told more c is
+            ∙ ap (λ os. os ++ map parsed (lines_in [] more)) (ap (λ (x : Parsed). orders_of c.history ++ (x ∷ [])) (sym o.ordered) ∙ sym grown);
+        runs = m.runs;
+        front = subst P says (subst Q c.told_is tells);
+        fits = lines_fit began (c.history ++ o.line ∷ []) next _ _ disk_next m.stays m.last_is m.number_is;
+        leaves = leaves_logs stand make began folder (folder_of disk_next) (c.history ++ o.line ∷ []) next disk_next refl m;
+      }
+
   -- the run breaks off between two bytes
-  pub broken : (script more : List ℕ) (store : Stored) (line : LineInHand) (disk : Disk) (told : List ℕ) → Begins folder began
+  pub broken : (script more : List ℕ) (store : Stored) (line : LineInHand) (disk : Disk) (told : List ℕ) → IsStartOf folder began
       → Carried began folder told0 script store line disk told steady → HasBegun folder (script ++ more) told0 told
   broken script more store line disk told begins c =
       breaks_between folder began (script ++ more) told0 told c.history (state_of store) (map parsed (lines_in c.front more)) begins (lines_fit began c.history store _ _ disk c.stays c.last_is c.number_is) (c.cut more) c.runs c.told_is
 
   -- it breaks off for what the script brings: the replies to the whole lines are told
-  pub taken : (script : List ℕ) (store : Stored) (line : LineInHand) (disk : Disk) (told : List ℕ) → Begins folder began
-      → Carried began folder told0 script store line disk told steady → HasTaken folder script told0 told
-  taken script store line disk told begins c = record {
+  pub taken : StoresStand → BatchesMakeMap → (script : List ℕ) (store : Stored) (line : LineInHand) (disk : Disk) (told : List ℕ) → IsStartOf folder began
+      → Carried began folder told0 script store line disk told steady → HasTaken folder (folder_of disk) script told0 told
+  taken stand make script store line disk told begins c = record {
     began = began;
     begins = begins;
     history = c.history;
@@ -226,4 +240,5 @@ module _ (began : Began) (folder : Folder) (told0 : List ℕ) (steady : (Cut →
     };
     told_is = c.told_is;
     fits = lines_fit began c.history store _ _ disk c.stays c.last_is c.number_is;
+    leaves = leaves_logs stand make began folder (folder_of disk) c.history store disk refl (reached script store line disk told c);
   }

@@ -10,7 +10,7 @@ use Rattle.bl_store.specs.Cuts.{BeforeBarrier, FindsOpened}
 use Rattle.bl_store.specs.Laws.{CutsStand, BatchesMakeMap}
 use Rattle.bl_store.specs.Stored.{HasNextLog, IsOpened}
 use Rattle.bl_store.proofs.BehindLemmas.{finds_no_next, no_call_no_new}
-use Rattle.bl_shell.specs.Machine.{Began}
+use Rattle.bl_shell.specs.Machine.{Start}
 use Rattle.bl_shell.specs.declared.stop.Stop.{Stop}
 use Rattle.bl_shell.specs.declared.stop.Stop.TheVariants as stop
 use Rattle.bl_shell.specs.declared.status.Status.{Status}
@@ -18,7 +18,7 @@ use Rattle.bl_shell.specs.declared.status.Status.TheVariants.{Full}
 use Rattle.bl_shell.specs.Causes.{MayEnd, EndsAs, status_of}
 use Rattle.bl_shell.specs.Cuts.{IsErrorFront, told_only, CutOfRun, CutInRun, CutPast, CutStands, FromSomeMoment, HasStopped, Stops, StopsRun, TellsError, as_it_reads, given_before}
 use Rattle.bl_shell.specs.Synced.{CutOf}
-use Rattle.bl_shell.specs.Telling.{Begins, corrupt_line, full_line}
+use Rattle.bl_shell.specs.Telling.{IsStartOf, corrupt_line, full_line}
 use Rattle.bl_shell.proofs.CarriedLemmas.{cut_at_start}
 use Rattle.bl_shell.proofs.CutLemmas.{cut_of_more}
 use Rattle.bl_shell.proofs.TopLemmas.{began_of, begins_open, starts_open}
@@ -78,7 +78,7 @@ module _ {D : Type 0} (clock : D → ℕ) (left_since : D → ℕ → Cut → Ty
   untouched site folder given now = widened clock left_since site site _ _ (λ c cut. no_error_yet (may_be site) folder given (told site) c cut) (unopened site folder given now)
 
   -- the opening, and the lines behind it
-  pub opened_then : (old mid new : D) (folder : Folder) (given : List Parsed) (began : Began) → Begins folder began
+  pub opened_then : (old mid new : D) (folder : Folder) (given : List Parsed) (began : Start) → IsStartOf folder began
       → LeavesOnly clock left_since old mid (BeforeBarrier folder (may_be old) (told old)) → LeavesOnly clock left_since mid new (CutOf began given (told mid)) → told mid ≡ told old
       → LeavesOnly clock left_since old new (CutInRun (may_be old) folder given (told old))
   opened_then old mid new folder given began begins first second same =
@@ -87,10 +87,10 @@ module _ {D : Type 0} (clock : D → ℕ) (left_since : D → ℕ → Cut → Ty
       joins clock left_since old mid new P (widened clock left_since old mid _ P (λ c b. inl b) first)
       (widened clock left_since mid new _ P (λ c o. inr (began, begins, (let R : List ℕ → Type 0 = λ t. Q t c in subst R same o))) second)
 
-  pub opened_stops : (old mid new : D) (folder : Folder) (script : List ℕ) (limit : ℕ) → LeavesOnly clock left_since old mid (BeforeBarrier folder (may_be old) (told old))
-      → Stops folder script (told mid) (told new) limit (LeavesOnly clock left_since mid new) → told mid ≡ told old
-      → StopsRun (may_be old) folder script (told old) (told new) limit (LeavesOnly clock left_since old new)
-  opened_stops old mid new folder script limit first s same = record {
+  pub opened_stops : (old mid new : D) (folder after : Folder) (script : List ℕ) (limit : ℕ) → LeavesOnly clock left_since old mid (BeforeBarrier folder (may_be old) (told old))
+      → Stops folder after script (told mid) (told new) limit (LeavesOnly clock left_since mid new) → told mid ≡ told old
+      → StopsRun (may_be old) folder after script (told old) (told new) limit (LeavesOnly clock left_since old new)
+  opened_stops old mid new folder after script limit first s same = record {
     replies = s.replies;
     full = inr s.passes;
     told_is = s.told_is ∙ ap (λ t. t ++ s.replies) same;
@@ -112,7 +112,7 @@ module _ {D : Type 0} (clock : D → ℕ) (left_since : D → ℕ → Cut → Ty
       (λ c left. let P : List ℕ → Type 0 = λ t. MayLeave (may_be site) t c in record { error = []; is_error = no_error; leaves = subst P (sym (append-nil (told site))) (now c left) })
 
   -- the opening, from which on every cut is one of the lines behind it
-  pub opened_past : (old mid new : D) (folder : Folder) (given : List Parsed) (began : Began) → Begins folder began → clock old ≤ clock mid → LeavesOnly clock left_since mid new (CutOf began given (told mid)) → told mid ≡ told old
+  pub opened_past : (old mid new : D) (folder : Folder) (given : List Parsed) (began : Start) → IsStartOf folder began → clock old ≤ clock mid → LeavesOnly clock left_since mid new (CutOf began given (told mid)) → told mid ≡ told old
       → FromSomeMoment clock left_since old new (CutPast folder given (told old))
   opened_past old mid new folder given began begins later leaves same = record {
     moment = clock mid;
@@ -150,7 +150,7 @@ module _ {D : Type 0} (clock : D → ℕ) (left_since : D → ℕ → Cut → Ty
       widened clock left_since site site _ _ (λ c none next. absurd (finds_no_next (disk site) c none next)) (no_call_no_new clock left_since disk told may_be site only now)
 
   -- the opening, and the lines behind it
-  pub opened_behind : CutsStand → BatchesMakeMap → (old mid new : D) (folder : Folder) (given : List Parsed) (began : Began) → Begins folder began
+  pub opened_behind : CutsStand → BatchesMakeMap → (old mid new : D) (folder : Folder) (given : List Parsed) (began : Start) → IsStartOf folder began
       → LeavesOnly clock left_since old mid (λ c. HasNextLog folder c.written → FindsOpened folder (told old) c) → LeavesOnly clock left_since mid new (CutOf began given (told mid)) → told mid ≡ told old
       → LeavesOnly clock left_since old new (λ c. HasNextLog folder c.written → CutPast folder given (told old) c)
   opened_behind law makes old mid new folder given began begins first second same =
@@ -241,10 +241,10 @@ full_told status limit mid next is ends = elim ends [
 ]
 
 -- a run that a limit ended
-pub has_stopped : (status : Status) (may_be : Disk → Type 0) (folder : Folder) (script told mid next : List ℕ) (limit : ℕ) (before since : (Cut → Type 0) → Type 0) → status ≡ Full
-    → (s : StopsRun may_be folder script told mid limit before) → EndsAs Full status (full_line limit) mid next
-    → since (CutOfRun may_be folder (given_before folder script s.replies limit s.full) told) → HasStopped may_be folder script told next since
-has_stopped status may_be folder script told mid next limit before since is s ends cuts = record {
+pub has_stopped : (status : Status) (may_be : Disk → Type 0) (folder after : Folder) (script told mid next : List ℕ) (limit : ℕ) (before since : (Cut → Type 0) → Type 0) → status ≡ Full
+    → (s : StopsRun may_be folder after script told mid limit before) → EndsAs Full status (full_line limit) mid next
+    → since (CutOfRun may_be folder (given_before folder after script s.replies limit s.full) told) → HasStopped may_be folder after script told next since
+has_stopped status may_be folder after script told mid next limit before since is s ends cuts = record {
   replies = s.replies;
   limit = limit;
   full = s.full;

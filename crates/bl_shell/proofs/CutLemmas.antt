@@ -9,13 +9,15 @@ use Rattle.bl_entry.specs.Batches.{Batch}
 use Rattle.bl_script.specs.declared.command.Parsed.{Parsed}
 use Rattle.bl_script.specs.declared.command.Parsed.TheVariants.{Nothing}
 use Rattle.bl_records.specs.Chance.{NoChanceMatch}
+use Rattle.bl_records.proofs.HeldLemmas.{within_of}
+use Rattle.bl_wal.specs.Held.{record_of}
 use Rattle.bl_store.specs.Cuts.{LeavesFirst, AreLeftWhole}
 use Rattle.bl_store.specs.Folders.{Stands, LogStands}
 use Rattle.bl_store.specs.Laws.{CutsStand, BatchesMakeMap}
 use Rattle.bl_store.specs.Stored.{Stored, next_batch}
-use Rattle.bl_shell.specs.Machine.{Write, Line, Runs, after_writes, orders_of, reply_of, writes_of, told_by, written_by, operations_in, numbered, Began}
+use Rattle.bl_shell.specs.Machine.{Write, Line, Runs, after_writes, orders_of, reply_of, writes_of, told_by, written_by, operations_in, numbered, Start}
 use Rattle.bl_shell.specs.Synced.{syncs, before_sync, synced, begun, CutOf, StandsAfter}
-use Rattle.bl_shell.specs.Carried.{state_of, Stays, TellsFront, StandsFirst, CutTelling, CutIn, IsWrite, IsTold, IsMade}
+use Rattle.bl_shell.specs.Carried.{state_of, IsServable, TellsFront, StandsFirst, CutTelling, CutIn, IsWrite, IsTold, IsMade}
 use Rattle.bl_shell.proofs.HistoryLemmas.{goes, runs_then, told_more, written_more, numbered_more, line_of, next_of, step_of}
 use Rattle.bl_shell.proofs.StayLemmas.{none_numbered, one_numbered, stays_same}
 use Rattle.bl_shell.proofs.SyncedLemmas.{says, yes_or_no, begun_within, begun_of_more, synced_of_more, synced_all, begun_all, synced_in, synced_with, begun_in, stands_after, numbered-length}
@@ -51,12 +53,12 @@ first_of_more folder batches more least s =
 first_from : (folder : Folder) (batches : List Batch) (less least : ℕ) → less ≤ least → StandsFirst folder batches least → StandsFirst folder batches less
 first_from folder batches less least le s = record { count = s.count; at_least = omega (arith, le, s.at_least); at_most = s.at_most; last = s.last; stands = s.stands }
 
-pub first_stays : CutsStand → (store : Stored) (batches : List Batch) (least : ℕ) (disk : Disk) (told : List ℕ) (c : Cut) → Stays store batches least disk → IsCut disk told c
+pub first_stays : CutsStand → (store : Stored) (batches : List Batch) (least : ℕ) (disk : Disk) (told : List ℕ) (c : Cut) → IsServable store batches least disk → IsCut disk told c
     → NoChanceMatch c.folder c.written → StandsFirst c.folder batches least
 first_stays law store batches least disk told c s is =
     leaves_first s.older s.own batches s.synced least told c s.all s.at_least (law store.log s.older s.own s.synced store.last disk told c s.carries.on is)
 
-pub whole_stays : CutsStand → (store : Stored) (batches : List Batch) (least : ℕ) (disk : Disk) (told : List ℕ) (c : Cut) → Stays store batches least disk → IsCut disk told c → AreLeftWhole c
+pub whole_stays : CutsStand → (store : Stored) (batches : List Batch) (least : ℕ) (disk : Disk) (told : List ℕ) (c : Cut) → IsServable store batches least disk → IsCut disk told c → AreLeftWhole c
 whole_stays law store batches least disk told c s is = (law store.log s.older s.own s.synced store.last disk told c s.carries.on is).whole
 
 -- what is told of a line, seen from the order's beginning
@@ -67,8 +69,8 @@ cut_at disk mid bytes reply told told_mid c same tells t = record {
 }
 
 -- not more batches than there are
-pub least_within : (store : Stored) (batches : List Batch) (least : ℕ) (disk : Disk) → Stays store batches least disk → least ≤ length batches
-least_within store batches least disk s = omega (arith, s.at_least, s.carries.on.holds.within, ap length s.all, length-append s.older s.own)
+pub least_within : (store : Stored) (batches : List Batch) (least : ℕ) (disk : Disk) → IsServable store batches least disk → least ≤ length batches
+least_within store batches least disk s = omega (arith, s.at_least, within_of record_of s.own s.synced s.carries.on.holds.within, ap length s.all, length-append s.older s.own)
 
 abbrev none_told : (reply told told_now : List ℕ) → told_now ≡ told → TellsFront reply told told_now
 none_told reply told told_now same = record { front = []; rest = reply; whole = refl; told_is = same ∙ sym (append-nil told) }
@@ -83,13 +85,13 @@ cut_quiet order store batches least told c same older first = record {
   synced = λ chance sync none. absurd (says order store.now sync none);
 }
 
-pub cut_now : CutsStand → (order : Parsed) (store : Stored) (batches : List Batch) (least : ℕ) (disk : Disk) (told : List ℕ) (c : Cut) → Stays store batches least disk → IsCut disk told c
+pub cut_now : CutsStand → (order : Parsed) (store : Stored) (batches : List Batch) (least : ℕ) (disk : Disk) (told : List ℕ) (c : Cut) → IsServable store batches least disk → IsCut disk told c
     → CutIn order store batches least told c
 cut_now law order store batches least disk told c s is =
     cut_quiet order store batches least told c is.told_is (whole_stays law store batches least disk told c s is) (first_stays law store batches least disk told c s is)
 
 -- nothing was told yet, and a batch is on its way to the log
-pub cut_writing : (order : Parsed) (operations : Write) (store : Stored) (batches : List Batch) (least : ℕ) (disk : Disk) (told : List ℕ) (c : Cut) → IsWrite order operations → (s : Stays store batches least disk)
+pub cut_writing : (order : Parsed) (operations : Write) (store : Stored) (batches : List Batch) (least : ℕ) (disk : Disk) (told : List ℕ) (c : Cut) → IsWrite order operations → (s : IsServable store batches least disk)
     → LeavesFirst s.older (s.own ++ next_batch store operations ∷ []) s.synced told c → CutIn order store batches least told c
 cut_writing order operations store batches least disk told c w s l =
     let b = next_batch store operations in
@@ -104,7 +106,7 @@ cut_writing order operations store batches least disk told c w s l =
 
 -- the order is done, and the reply is told
 pub cut_told : CutsStand → (order : Parsed) (store next : Stored) (batches : List Batch) (least : ℕ) (disk : Disk) (told : List ℕ) (c : Cut) → least ≤ length batches
-    → Stays next (batches ++ numbered (store.last + 1) (writes_of order)) (cond (syncs order) (length batches) least) disk → CutTelling disk (reply_of order store.now) told c
+    → IsServable next (batches ++ numbered (store.last + 1) (writes_of order)) (cond (syncs order) (length batches) least) disk → CutTelling disk (reply_of order store.now) told c
     → CutIn order store batches least told c
 cut_told law order store next batches least disk told c le s t =
     let all = batches ++ numbered (store.last + 1) (writes_of order) in
@@ -121,18 +123,18 @@ cut_told law order store next batches least disk told c le s t =
     either false = omega arith
 
 -- an order only tells
-pub cut_only_told : CutsStand → (order : Parsed) (store : Stored) (batches : List Batch) (least : ℕ) (disk : Disk) (reply told : List ℕ) (c : Cut) → IsTold order store.now reply → Stays store batches least disk
+pub cut_only_told : CutsStand → (order : Parsed) (store : Stored) (batches : List Batch) (least : ℕ) (disk : Disk) (reply told : List ℕ) (c : Cut) → IsTold order store.now reply → IsServable store batches least disk
     → CutTelling disk reply told c → CutIn order store batches least told c
 cut_only_told law order store batches least disk reply told c t s k =
     let R : List ℕ → Type 0 = λ r. CutTelling disk r told c in
-    let W : List Write → Type 0 = λ ws. Stays store (batches ++ numbered (store.last + 1) ws) (cond (syncs order) (length batches) least) disk in
-    let B : Bool → Type 0 = λ b. Stays store (batches ++ numbered (store.last + 1) []) (cond b (length batches) least) disk in
-    let N : List Batch → Type 0 = λ bs. Stays store (batches ++ bs) least disk in
+    let W : List Write → Type 0 = λ ws. IsServable store (batches ++ numbered (store.last + 1) ws) (cond (syncs order) (length batches) least) disk in
+    let B : Bool → Type 0 = λ b. IsServable store (batches ++ numbered (store.last + 1) []) (cond b (length batches) least) disk in
+    let N : List Batch → Type 0 = λ bs. IsServable store (batches ++ bs) least disk in
     cut_told law order store store batches least disk told c (least_within store batches least disk s)
     (subst W (sym t.writes) (subst B (sym t.no_sync) (subst N (sym (none_numbered (store.last + 1))) (stays_same store batches least disk disk refl s)))) (subst R (sym t.tells) k)
 
 -- what was told and what the folder holds, as the history has it
-module _ (make : BatchesMakeMap) (began : Began) (told0 : List ℕ) (made : IsMade began) where
+module _ (make : BatchesMakeMap) (began : Start) (told0 : List ℕ) (made : IsMade began) where
   -- between two lines
   pub cut_between : (history : List Line) (store : Stored) (told : List ℕ) (c : Cut) → Runs (record { now = began.now }) history (state_of store) → told ≡ told0 ++ told_by history → c.told ≡ told → AreLeftWhole c
       → (NoChanceMatch c.folder c.written → StandsFirst c.folder (began.batches ++ numbered (began.last + 1) (written_by history)) (length began.batches + before_sync history))
@@ -209,7 +211,7 @@ module _ (make : BatchesMakeMap) (began : Began) (told0 : List ℕ) (made : IsMa
       (λ chance. subst F (ap (λ bs. batches ++ bs) (none_numbered (store.last + 1)) ∙ append-nil batches) (i.stands chance))
 
 -- a cut of some orders is one of more: the history goes on, and no count changes for it
-pub cut_of_more : (began : Began) (given more : List Parsed) (told : List ℕ) (c : Cut) → CutOf began given told c → CutOf began (given ++ more) told c
+pub cut_of_more : (began : Start) (given more : List Parsed) (told : List ℕ) (c : Cut) → CutOf began given told c → CutOf began (given ++ more) told c
 cut_of_more began given more told c o =
     let g = goes more o.last in
     let h = o.history in
@@ -242,5 +244,5 @@ cut_of_more began given more told c o =
           };
     }
 
-pub cut_of_given : (began : Began) (given all more : List Parsed) (told : List ℕ) (c : Cut) → all ≡ given ++ more → CutOf began given told c → CutOf began all told c
+pub cut_of_given : (began : Start) (given all more : List Parsed) (told : List ℕ) (c : Cut) → all ≡ given ++ more → CutOf began given told c → CutOf began all told c
 cut_of_given began given all more told c is o = let P : List Parsed → Type 0 = λ g. CutOf began g told c in subst P (sym is) (cut_of_more began given more told c o)

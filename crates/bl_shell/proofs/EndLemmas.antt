@@ -1,43 +1,40 @@
 -- The script's end.
-use Rattle.std.proofs.Common.{◌≡◌, ℕ, ◌+◌, ◌<◌, ◌^◌, Bool, true, false, List, [], ◌∷◌, ◌++◌, length, map, Option, None, Some, IsSome, refl, sym, ◌∙◌, ap, subst, arith, append-nil, length-append, inl, inr}
-use Rattle.std.proofs.Math.Seq.{take-length}
+use Rattle.std.proofs.Common.{◌≡◌, ℕ, ◌+◌, ◌<◌, Bool, true, false, List, [], ◌∷◌, ◌++◌, length, map, Option, refl, sym, ◌∙◌, ap, subst, arith, append-nil, length-append, inl, inr}
 use Rattle.std.proofs.lemmas.Bool.{cases_lt}
-use Rattle.std.proofs.lemmas.List.{nil_from_length}
-use Rattle.std.specs.Option.{option_map}
-use Rattle.std.specs.FinMap.{empty}
+use Rattle.std.proofs.lemmas.List.{nil_from_length, take_all, length-map}
 use Rattle.bl_site.specs.Calls.{LeavesOnly}
-use Rattle.bl_site.specs.Disk.{Name, File, Folder, Disk, Cut, folder_of}
+use Rattle.bl_site.specs.Disk.{File, Folder, Disk, Cut, folder_of}
 use Rattle.bl_site.proofs.Moments.{joins, widened, cut_of_only}
 use Rattle.bl_names.specs.Names.{IsNumber}
 use Rattle.bl_entry.specs.Batches.{Batch}
 use Rattle.bl_entry.specs.Revisions.{Map, revisions_of, IsMapAt}
 use Rattle.bl_script.specs.Lines.{lines_in, last_line, without_return}
 use Rattle.bl_script.specs.Parsing.{parsed}
-use Rattle.bl_store.specs.Logs.{after_batches}
 use Rattle.bl_script.specs.declared.command.Parsed.{Parsed}
 use Rattle.bl_wal.specs.LogFile.{LogFile, log_name}
-use Rattle.bl_wal.specs.Held.{log_of}
+use Rattle.bl_log.specs.Layout.{written}
+use Rattle.bl_wal.specs.Held.{log_of, record_of}
 use Rattle.bl_store.specs.Cuts.{LeavesFirst}
 use Rattle.bl_store.specs.Folders.{Stands}
 use Rattle.bl_store.specs.Laws.{StoresStand, BatchesMakeMap, OlderLogsAreSynced, SyncedStoresAreLeft}
 use Rattle.bl_store.specs.Stored.{Stored, StandsOn, Carries, IsSynced}
 use Rattle.bl_shell.specs.declared.lines.LineInHand.{LineInHand}
-use Rattle.bl_shell.specs.Machine.{orders, orders_of, told_by, written_by, numbered, Began}
-use Rattle.bl_shell.specs.Carried.{state_of, Keeps, Steady, Carried, Finished}
+use Rattle.bl_shell.specs.Machine.{orders, orders_of, told_by, written_by, numbered, Start}
+use Rattle.bl_shell.specs.Carried.{state_of, Steady, Carried, Finished}
 use Rattle.bl_shell.specs.Cuts.{IsKept, Stops}
 use Rattle.bl_shell.specs.Synced.{before_sync, CutOf}
-use Rattle.bl_shell.specs.Telling.{Begins, HasRun, HasBegun}
+use Rattle.bl_shell.specs.Telling.{IsStartOf, HasRun, HasBegun, HasFaltered}
 use Rattle.bl_shell.proofs.BreakLemmas.{all_within}
+use Rattle.bl_shell.proofs.LeaveLemmas.{leaves_logs}
 use Rattle.bl_shell.proofs.LimitLemmas.{lines_fit}
 use Rattle.bl_shell.proofs.LineLemmas.{line_ends, lines_end, last_is}
 use Rattle.bl_shell.proofs.CutLemmas.{cut_between, leaves_first}
-use Rattle.bl_shell.proofs.StayLemmas.{stands}
 
 in_hand : (long : Bool) (bytes front : List ℕ) → (long ≡ false → bytes ≡ front) → (long ≡ true → 67108865 < length front) → ((long ≡ false) × (bytes ≡ []) → ⊥) → front ≡ [] → ⊥
 in_hand true bytes front kept much some none = omega (arith, much refl, ap length none)
 in_hand false bytes front kept much some none = some (refl, kept refl ∙ none)
 
-module _ (began : Began) (folder : Folder) (told0 : List ℕ) (steady : (Cut → Type 0) → Type 0) where
+module _ (began : Start) (folder : Folder) (told0 : List ℕ) (steady : (Cut → Type 0) → Type 0) where
   -- the orders of a script that ends here
   orders_here : (script : List ℕ) (store : Stored) (line : LineInHand) (disk : Disk) (told : List ℕ) (c : Carried began folder told0 script store line disk told steady)
       → orders script ≡ orders_of c.history ++ map parsed (last_line c.front)
@@ -97,8 +94,8 @@ begun_so folder script other told0 told same b = record {
   fits = b.fits;
 }
 
-pub stops_so : (folder : Folder) (script other told0 told : List ℕ) (limit : ℕ) (since : (Cut → Type 0) → Type 0) → orders script ≡ orders other → Stops folder script told0 told limit since → Stops folder other told0 told limit since
-stops_so folder script other told0 told limit since same s =
+pub stops_so : (folder after : Folder) (script other told0 told : List ℕ) (limit : ℕ) (since : (Cut → Type 0) → Type 0) → orders script ≡ orders other → Stops folder after script told0 told limit since → Stops folder after other told0 told limit since
+stops_so folder after script other told0 told limit since same s =
     let p = s.passes in
     record {
       replies = s.replies;
@@ -114,32 +111,31 @@ stops_so folder script other told0 told limit since same s =
         fits = p.fits;
         passes = p.passes;
         replies_are = p.replies_are;
+        leaves = p.leaves;
       };
       told_is = s.told_is;
       cuts = s.cuts;
     }
 
--- a file of the disk is one of the folder
-reads_there : (disk : Disk) (name : Name) (file : File) → disk name ≡ Some file → IsSome (folder_of disk name)
-reads_there disk name file there = let P : Option File → Type 0 = λ o. IsSome (option_map (λ (x : File). x.read) o) in subst P (sym there) refl
+pub falters_so : (folder after : Folder) (script other told0 told : List ℕ) → orders script ≡ orders other → HasFaltered folder after script told0 told → HasFaltered folder after other told0 told
+falters_so folder after script other told0 told same f = record {
+  began = f.began;
+  begins = f.begins;
+  history = f.history;
+  line = f.line;
+  rest = f.rest;
+  last = f.last;
+  orders_are = sym same ∙ f.orders_are;
+  runs = f.runs;
+  front = f.front;
+  fits = f.fits;
+  leaves = f.leaves;
+}
 
 -- the log is synced, and the folder stands for the last map
-pub has_run : StoresStand → BatchesMakeMap → (began : Began) (folder : Folder) (script told0 : List ℕ) (store : Stored) (disk disk_next : Disk) (told : List ℕ) (steady : (Cut → Type 0) → Type 0)
-    → Begins folder began → folder_of disk_next ≡ folder_of disk → Finished began folder script told0 store disk told steady → HasRun folder (folder_of disk_next) script told0 told
+pub has_run : StoresStand → BatchesMakeMap → (began : Start) (folder : Folder) (script told0 : List ℕ) (store : Stored) (disk disk_next : Disk) (told : List ℕ) (steady : (Cut → Type 0) → Type 0)
+    → IsStartOf folder began → folder_of disk_next ≡ folder_of disk → Finished began folder script told0 store disk told steady → HasRun folder (folder_of disk_next) script told0 told
 has_run stand make began folder script told0 store disk disk_next told steady begins same f =
-    let all = began.batches ++ numbered (began.last + 1) (written_by f.history) in
-    let there : Stands (folder_of disk) all store.last = stands stand store all (length began.batches + before_sync f.history) disk f.stays in
-    let S : ℕ → Type 0 = λ l. Stands (folder_of disk_next) all l in
-    let F : Folder → Type 0 = λ g. Stands g all store.last in
-    let map_is : IsMapAt (revisions_of all) store.last (after_batches all empty) = make (folder_of disk) all store.last there.have in
-    let now : after_batches all empty ≡ store.now = ap (λ bs. after_batches bs empty) (sym f.stays.all) ∙ sym f.stays.carries.now_is in
-    let M : Map → Type 0 = λ m. IsMapAt (revisions_of all) store.last m in
-    let L : ℕ → Type 0 = λ l. IsMapAt (revisions_of all) l store.now in
-    let K : Folder → Type 0 = λ g. Keeps began.number folder g in
-    let U : Folder → Type 0 = λ g. IsSome (g (log_name store.log.number)) in
-    let N : ℕ → Type 0 = λ n. IsNumber n in
-    let I : ℕ → Type 0 = λ n. IsSome (folder_of disk_next (log_name n)) in
-    let held : IsSome (folder_of disk (log_name store.log.number)) = reads_there disk (log_name store.log.number) f.stays.carries.on.holds.file f.stays.carries.on.holds.there in
     record {
       began = began;
       begins = begins;
@@ -148,18 +144,12 @@ has_run stand make began folder script told0 store disk disk_next told steady be
       is_history = f.is_history;
       told_is = f.told_is;
       fits = lines_fit began f.history store _ _ disk f.stays f.last_is f.number_is;
-      stands = subst S f.last_is (subst F (sym same) there);
-      map_is = subst L f.last_is (subst M now map_is);
-      has_number = subst N f.number_is f.stays.carries.on.is_number;
-      in_use = subst I f.number_is (subst U (sym same) held);
-      newest = let W : Folder → Type 0 = λ g. (n : ℕ) → store.log.number < n → n < 10 ^ 15 → g (log_name n) ≡ None in
-          let V : ℕ → Type 0 = λ k. (n : ℕ) → k < n → n < 10 ^ 15 → folder_of disk_next (log_name n) ≡ None in
-          subst V f.number_is (subst W (sym same) (λ n a b. ap (option_map (λ (file : File). file.read)) (f.stays.carries.on.newest n a b)));
-      keeps = subst K (sym same) f.keeps;
+      leaves = leaves_logs stand make began folder (folder_of disk_next) f.history store disk same
+          (record { runs = f.is_history.runs; stays = f.stays; last_is = f.last_is; number_is = f.number_is; keeps = f.keeps });
     }
 
 -- all is told, and the log could not be synced
-pub all_begun : (began : Began) (folder : Folder) (script told0 : List ℕ) (store : Stored) (disk : Disk) (told next : List ℕ) (steady : (Cut → Type 0) → Type 0) → Begins folder began → next ≡ told
+pub all_begun : (began : Start) (folder : Folder) (script told0 : List ℕ) (store : Stored) (disk : Disk) (told next : List ℕ) (steady : (Cut → Type 0) → Type 0) → IsStartOf folder began → next ≡ told
     → Finished began folder script told0 store disk told steady → HasBegun folder script told0 next
 all_begun began folder script told0 store disk told next steady begins same f = record {
   began = began;
@@ -171,7 +161,7 @@ all_begun began folder script told0 store disk told next steady begins same f = 
   fits = all_within began f.history (lines_fit began f.history store _ _ disk f.stays f.last_is f.number_is);
 }
 
-module _ {D : Type 0} (certain : D → Type 0) (clock : D → ℕ) (left_since : D → ℕ → Cut → Type 0) (make : BatchesMakeMap) (began : Began) (folder : Folder) (script told0 : List ℕ) where
+module _ {D : Type 0} (certain : D → Type 0) (clock : D → ℕ) (left_since : D → ℕ → Cut → Type 0) (make : BatchesMakeMap) (began : Start) (folder : Folder) (script told0 : List ℕ) where
   -- the cuts while the log is synced
   pub last_cuts : (store : Stored) (disk : Disk) (told : List ℕ) (start old new : D) (f : Finished began folder script told0 store disk told (Steady certain clock left_since start old))
       → LeavesOnly clock left_since old new (LeavesFirst f.stays.older f.stays.own f.stays.synced told) → LeavesOnly clock left_since start new (CutOf began (orders script) told0)
@@ -194,7 +184,7 @@ all_synced log older own last disk whole on number is = elim (cases_lt log.numbe
     | inl below ↦ on.below_synced number is below
     | inr ge ↦
         let h = on.holds in
-        let front : h.file.front ≡ log_of own = h.front ∙ ap log_of (take-length own) in
+        let front : h.file.front ≡ log_of own = h.front ∙ ap (written 0) (take_all (length own) (map record_of own) (omega (arith, length-map own record_of))) in
         let none : h.file.handed ≡ [] = nil_from_length h.file.handed (omega (arith, ap length h.all, length-append h.file.front h.file.handed, ap length front)) in
         let e : log.number ≡ number = omega (arith, le, ge) in
         let P : ℕ → Type 0 = λ n. IsSynced (disk (log_name n)) in
@@ -204,8 +194,8 @@ all_synced log older own last disk whole on number is = elim (cases_lt log.numbe
 ]
 
 -- the log is synced: no cut from now on leaves another map
-pub is_kept : SyncedStoresAreLeft → BatchesMakeMap → OlderLogsAreSynced → (began : Began) (folder : Folder) (script told0 : List ℕ) (store next : Stored) (disk disk_next : Disk) (told told_next : List ℕ) (steady : (Cut → Type 0) → Type 0)
-    (certain : Type 0) (may_be : Disk → Type 0) → Begins folder began → certain → ((other : Disk) → may_be other → other ≡ disk_next) → next ≡ store
+pub is_kept : SyncedStoresAreLeft → BatchesMakeMap → OlderLogsAreSynced → (began : Start) (folder : Folder) (script told0 : List ℕ) (store next : Stored) (disk disk_next : Disk) (told told_next : List ℕ) (steady : (Cut → Type 0) → Type 0)
+    (certain : Type 0) (may_be : Disk → Type 0) → IsStartOf folder began → certain → ((other : Disk) → may_be other → other ≡ disk_next) → next ≡ store
     → ((older own : List Batch) (synced : ℕ) → Carries store older own synced disk → Carries next older own (length own) disk_next) → Finished began folder script told0 store disk told steady
     → IsKept certain may_be disk_next told_next folder script
 is_kept left make law began folder script told0 store next disk disk_next told told_next steady certain may_be begins sure only same carried f =

@@ -1,14 +1,14 @@
-mod BatchLemmas
 mod BreakLemmas
 mod CarriedLemmas
 mod CrashLemmas
 mod CutLemmas
 mod EndLemmas
 mod HistoryLemmas
+mod LeaveLemmas
+mod LawLemmas
 mod LimitLemmas
 mod LineLemmas
 mod MomentLemmas
-mod OnOk
 mod PairLemmas
 mod PieceLemmas
 mod StayLemmas

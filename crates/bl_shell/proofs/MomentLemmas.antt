@@ -10,7 +10,7 @@ use Rattle.bl_store.specs.Laws.{CutsStand}
 use Rattle.bl_store.specs.Stored.{Stored}
 use Rattle.bl_shell.specs.Machine.{reply_of, writes_of, numbered}
 use Rattle.bl_shell.specs.Synced.{syncs}
-use Rattle.bl_shell.specs.Carried.{Stays, CutTelling, CutIn}
+use Rattle.bl_shell.specs.Carried.{IsServable, CutTelling, CutIn}
 use Rattle.bl_shell.proofs.CutLemmas.{cut_now, cut_told}
 
 module _ {D : Type 0} (clock : D → ℕ) (left_since : D → ℕ → Cut → Type 0) (disk : D → Disk) (told : D → List ℕ) (may_be : D → Disk → Type 0) where
@@ -30,22 +30,24 @@ module _ {D : Type 0} (clock : D → ℕ) (left_since : D → ℕ → Cut → Ty
         is_cut = record { image = is.image; told_is = refl; written_is = is.written_is };
       }))
 
+  -- nothing of these bytes is told
+  pub quiet_telling : (site : D) (bytes : List ℕ) → ((other : Disk) → may_be site other → other ≡ disk site) → ((c : Cut) → left_since site (clock site) c → MayLeave (may_be site) (told site) c)
+      → LeavesOnly clock left_since site site (CutTelling (disk site) bytes (told site))
+  quiet_telling site bytes only now = still site (CutTelling (disk site) bytes (told site)) only now
+      (λ c is. record {
+        tells = record { front = []; rest = bytes; whole = refl; told_is = is.told_is ∙ sym (append-nil (told site)) };
+        is_cut = record { image = is.image; told_is = refl; written_is = is.written_is };
+      })
+
   -- only these bytes are told
   pub telling : (old new : D) (bytes : List ℕ) → Elapses (clock old) (clock new) (left_since old) (left_since new) (Tells (may_be old) (told old) bytes)
       → ((other : Disk) → may_be old other → other ≡ disk old) → ((c : Cut) → left_since old (clock old) c → MayLeave (may_be old) (told old) c)
       → LeavesOnly clock left_since old new (CutTelling (disk old) bytes (told old))
-  telling old new bytes time only now = tells_on old old new (CutTelling (disk old) bytes (told old)) bytes
-      (still old (CutTelling (disk old) bytes (told old)) only now (λ c is. quiet c is)) time only (λ c t. t)
-    where
-      quiet : (c : Cut) → IsCut (disk old) (told old) c → CutTelling (disk old) bytes (told old) c
-      quiet c is = record {
-        tells = record { front = []; rest = bytes; whole = refl; told_is = is.told_is ∙ sym (append-nil (told old)) };
-        is_cut = record { image = is.image; told_is = refl; written_is = is.written_is };
-      }
+  telling old new bytes time only now = tells_on old old new (CutTelling (disk old) bytes (told old)) bytes (quiet_telling old bytes only now) time only (λ c t. t)
 
   -- while memory runs out before an order is begun
   pub unbegun : CutsStand → (order : Parsed) (store : Stored) (batches : List Batch) (least : ℕ) (site : D) → ((other : Disk) → may_be site other → other ≡ disk site)
-      → ((c : Cut) → left_since site (clock site) c → MayLeave (may_be site) (told site) c) → Stays store batches least (disk site)
+      → ((c : Cut) → left_since site (clock site) c → MayLeave (may_be site) (told site) c) → IsServable store batches least (disk site)
       → LeavesOnly clock left_since site site (CutIn order store batches least (told site))
   unbegun law order store batches least site only now s =
       still site (CutIn order store batches least (told site)) only now (λ c is. cut_now law order store batches least (disk site) (told site) c s is)
@@ -54,7 +56,7 @@ module _ {D : Type 0} (clock : D → ℕ) (left_since : D → ℕ → Cut → Ty
   pub replied : CutsStand → (order : Parsed) (store next : Stored) (batches : List Batch) (least : ℕ) (reply : List ℕ) (old mid new : D)
       → LeavesOnly clock left_since old mid (CutIn order store batches least (told old)) → Elapses (clock mid) (clock new) (left_since mid) (left_since new) (Tells (may_be mid) (told mid) reply)
       → ((other : Disk) → may_be mid other → other ≡ disk mid) → reply ≡ reply_of order store.now → told mid ≡ told old → least ≤ length batches
-      → Stays next (batches ++ numbered (store.last + 1) (writes_of order)) (cond (syncs order) (length batches) least) (disk mid)
+      → IsServable next (batches ++ numbered (store.last + 1) (writes_of order)) (cond (syncs order) (length batches) least) (disk mid)
       → LeavesOnly clock left_since old new (CutIn order store batches least (told old))
   replied law order store next batches least reply old mid new so_far time only says same le s =
       let P : List ℕ → List ℕ → Cut → Type 0 = λ r t c. CutTelling (disk mid) r t c in

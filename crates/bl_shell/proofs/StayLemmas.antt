@@ -23,13 +23,13 @@ use Rattle.bl_store.specs.Laws.{StoresStand, BatchesAreOnce}
 use Rattle.bl_store.specs.Stored.{Stored, Carries, Opens, next_batch, next_record, wrote}
 use Rattle.bl_shell.specs.Machine.{Write, Line, after_writes, operations_in, numbered}
 use Rattle.bl_shell.specs.Synced.{syncs}
-use Rattle.bl_shell.specs.Carried.{Stays, Keeps, Obeyed, IsWrite, IsTold}
+use Rattle.bl_shell.specs.Carried.{IsServable, Keeps, Obeyed, IsWrite, IsTold}
 
 -- the same disk
-pub stays_same : (store : Stored) (batches : List Batch) (least : ℕ) (disk next : Disk) → next ≡ disk → Stays store batches least disk → Stays store (batches ++ []) least next
+pub stays_same : (store : Stored) (batches : List Batch) (least : ℕ) (disk next : Disk) → next ≡ disk → IsServable store batches least disk → IsServable store (batches ++ []) least next
 stays_same store batches least disk next same s =
-    let P : Disk → Type 0 = λ d. Stays store (batches ++ []) least d in
-    let Q : List Batch → Type 0 = λ bs. Stays store bs least disk in
+    let P : Disk → Type 0 = λ d. IsServable store (batches ++ []) least d in
+    let Q : List Batch → Type 0 = λ bs. IsServable store bs least disk in
     subst P (sym same) (subst Q (sym (append-nil batches)) s)
 
 pub keeps_same : (first : ℕ) (disk next : Disk) → next ≡ disk → Keeps first (folder_of disk) (folder_of next)
@@ -62,8 +62,8 @@ told_only order store disk next reply told told_next t same is =
       step = record { told_is = sym t.tells; wrote_is = sym t.writes; now_is = sym (no_writes store.now) };
       told_is = is;
       stays = λ batches least s.
-          let P : List Batch → Type 0 = λ more. Stays store (batches ++ more) least next in
-          let Q : Bool → Type 0 = λ b. Stays store (batches ++ numbered (store.last + 1) []) (cond b (length batches) least) next in
+          let P : List Batch → Type 0 = λ more. IsServable store (batches ++ more) least next in
+          let Q : Bool → Type 0 = λ b. IsServable store (batches ++ numbered (store.last + 1) []) (cond b (length batches) least) next in
           subst Q (sym t.no_sync) (subst P (sym (none_numbered (store.last + 1))) (stays_same store batches least disk next same s));
       last_is = e;
       number_is = omega (arith, t.opens);
@@ -91,11 +91,11 @@ one_after operations m = refl
 -- a batch more
 pub stays_wrote : (order : Parsed) (operations : Write) (store next : Stored) (disk mid after : Disk) (batches : List Batch) (least : ℕ) → IsWrite order operations → next ≡ wrote store operations
     → ((older own : List Batch) (synced : ℕ) → Carries store older own synced disk → Carries next older (own ++ next_batch store operations ∷ []) synced mid) → after ≡ mid
-    → Stays store batches least disk → Stays next (batches ++ numbered (store.last + 1) (operations ∷ [])) (cond (syncs order) (length batches) least) after
+    → IsServable store batches least disk → IsServable next (batches ++ numbered (store.last + 1) (operations ∷ [])) (cond (syncs order) (length batches) least) after
 stays_wrote order operations store next disk mid after batches least w is carried same s =
     let b = next_batch store operations in
-    let Q : Bool → Type 0 = λ x. Stays next (batches ++ numbered (store.last + 1) (operations ∷ [])) (cond x (length batches) least) after in
-    let more : Stays next (batches ++ numbered (store.last + 1) (operations ∷ [])) least after = record {
+    let Q : Bool → Type 0 = λ x. IsServable next (batches ++ numbered (store.last + 1) (operations ∷ [])) (cond x (length batches) least) after in
+    let more : IsServable next (batches ++ numbered (store.last + 1) (operations ∷ [])) least after = record {
       usable = ap (λ (x : Stored). x.broken) is ∙ s.usable;
       whole = ap (λ (x : Stored). x.log.failed) is ∙ s.whole;
       older = s.older;
@@ -111,7 +111,7 @@ stays_wrote order operations store next disk mid after batches least w is carrie
 pub wrote_line : (order : Parsed) (operations : Write) (store next : Stored) (disk mid after : Disk) (told told_mid told_next : List ℕ) → IsWrite order operations → next ≡ wrote store operations
     → Appends (log_name store.log.number) (next_record store operations) (next_record store operations) disk mid
     → ((older own : List Batch) (synced : ℕ) → Carries store older own synced disk → Carries next older (own ++ next_batch store operations ∷ []) synced mid)
-    → after ≡ mid → told_mid ≡ told → told_next ≡ told_mid ++ ok_line → (batches : List Batch) × ((least : ℕ) × Stays store batches least disk) → Obeyed order store next disk after told told_next
+    → after ≡ mid → told_mid ≡ told → told_next ≡ told_mid ++ ok_line → (batches : List Batch) × ((least : ℕ) × IsServable store batches least disk) → Obeyed order store next disk after told told_next
 wrote_line order operations store next disk mid after told told_mid told_next w is appends carried same told_same told_is there =
     let line : Line = record { order = order; wrote = operations ∷ []; told = ok_line } in
     let number : next.log.number ≡ store.log.number = ap (λ (s : Stored). s.log.number) is in
@@ -131,7 +131,7 @@ wrote_line order operations store next disk mid after told told_mid told_next w 
 -- all synced
 pub stays_synced : (store next : Stored) (disk mid after : Disk) (batches : List Batch) (least : ℕ) → next ≡ store
     → ((older own : List Batch) (synced : ℕ) → Carries store older own synced disk → Carries next older own (length own) mid) → after ≡ mid
-    → Stays store batches least disk → Stays next (batches ++ numbered (store.last + 1) []) (length batches) after
+    → IsServable store batches least disk → IsServable next (batches ++ numbered (store.last + 1) []) (length batches) after
 stays_synced store next disk mid after batches least is carried same s = record {
   usable = ap (λ (x : Stored). x.broken) is ∙ s.usable;
   whole = ap (λ (x : Stored). x.log.failed) is ∙ s.whole;
@@ -146,7 +146,7 @@ stays_synced store next disk mid after batches least is carried same s = record 
 -- a sync
 pub synced_line : (store next : Stored) (disk mid after : Disk) (told told_mid told_next : List ℕ) → next ≡ store → Syncs (log_name store.log.number) disk mid
     → ((older own : List Batch) (synced : ℕ) → Carries store older own synced disk → Carries next older own (length own) mid)
-    → after ≡ mid → told_mid ≡ told → told_next ≡ told_mid ++ ok_line → (batches : List Batch) × ((least : ℕ) × Stays store batches least disk) → Obeyed (Go command.Sync) store next disk after told told_next
+    → after ≡ mid → told_mid ≡ told → told_next ≡ told_mid ++ ok_line → (batches : List Batch) × ((least : ℕ) × IsServable store batches least disk) → Obeyed (Go command.Sync) store next disk after told told_next
 synced_line store next disk mid after told told_mid told_next is syncs carried same told_same told_is there =
     let line : Line = record { order = Go command.Sync; wrote = []; told = ok_line } in
     let number : next.log.number ≡ store.log.number = ap (λ (s : Stored). s.log.number) is in
@@ -164,27 +164,27 @@ synced_line store next disk mid after told told_mid told_next is syncs carried s
     }
 
 -- a store that can be used stands on a folder of its batches
-pub stands : StoresStand → (store : Stored) (batches : List Batch) (least : ℕ) (disk : Disk) → Stays store batches least disk → Stands (folder_of disk) batches store.last
+pub stands : StoresStand → (store : Stored) (batches : List Batch) (least : ℕ) (disk : Disk) → IsServable store batches least disk → Stands (folder_of disk) batches store.last
 stands law store batches least disk s =
     let P : List Batch → Type 0 = λ bs. Stands (folder_of disk) bs store.last in
     subst P s.all (law store.log s.older s.own s.synced store.last disk s.whole s.carries.on)
 
-log_there : (store : Stored) (batches : List Batch) (least : ℕ) (disk : Disk) (s : Stays store batches least disk) → IsSome (folder_of disk (log_name store.log.number))
+pub log_there : (store : Stored) (batches : List Batch) (least : ℕ) (disk : Disk) (s : IsServable store batches least disk) → IsSome (folder_of disk (log_name store.log.number))
 log_there store batches least disk s = let P : Option (List ℕ) → Type 0 = IsSome in subst P (sym (ap (option_map (λ (file : File). file.read)) s.carries.on.holds.there)) refl
 
 -- no log is greater than the one in use
-not_greater : (store : Stored) (batches : List Batch) (least : ℕ) (disk : Disk) (n : ℕ) → Stays store batches least disk → IsNumber n → IsSome (folder_of disk (log_name n)) → n ≤ store.log.number
+not_greater : (store : Stored) (batches : List Batch) (least : ℕ) (disk : Disk) (n : ℕ) → IsServable store batches least disk → IsNumber n → IsSome (folder_of disk (log_name n)) → n ≤ store.log.number
 not_greater store batches least disk n s is some = elim (cases_lt store.log.number n) [
   | inl lt ↦ let none : folder_of disk (log_name n) ≡ None = ap (option_map (λ (file : File). file.read)) (s.carries.on.newest n lt is.1) in absurd (cc (some, none))
   | inr le ↦ le
 ]
 
-pub greatest_is : (store : Stored) (batches : List Batch) (least : ℕ) (disk : Disk) → Stays store batches least disk → IsSome (folder_of disk (log_name (10 ^ 15 - 1))) → store.log.number + 1 ≡ 10 ^ 15
+pub greatest_is : (store : Stored) (batches : List Batch) (least : ℕ) (disk : Disk) → IsServable store batches least disk → IsSome (folder_of disk (log_name (10 ^ 15 - 1))) → store.log.number + 1 ≡ 10 ^ 15
 greatest_is store batches least disk s some =
     let n : IsNumber (10 ^ 15 - 1) = (omega arith, omega arith) in
     omega (arith, not_greater store batches least disk (10 ^ 15 - 1) s n some, s.carries.on.is_number.1)
 
-pub next_number : (store : Stored) (batches : List Batch) (least : ℕ) (disk : Disk) (number : ℕ) → Stays store batches least disk → IsNext (folder_of disk) number → number ≡ store.log.number + 1
+pub next_number : (store : Stored) (batches : List Batch) (least : ℕ) (disk : Disk) (number : ℕ) → IsServable store batches least disk → IsNext (folder_of disk) number → number ≡ store.log.number + 1
 next_number store batches least disk number s next =
     let above : store.log.number < number = next.above store.log.number s.carries.on.is_number (log_there store batches least disk s) in
     elim next.least [
@@ -192,13 +192,13 @@ next_number store batches least disk number s next =
       | inr there ↦ omega (arith, above, not_greater store batches least disk (number - 1) s there.0 there.1)
     ]
 
-found_again : StoresStand → BatchesAreOnce → (store next : Stored) (disk mid : Disk) (batches : List Batch) (least : ℕ) (o : Opens (folder_of disk) next mid) → Stays store batches least disk
+found_again : StoresStand → BatchesAreOnce → (store next : Stored) (disk mid : Disk) (batches : List Batch) (least : ℕ) (o : Opens (folder_of disk) next mid) → IsServable store batches least disk
     → (o.batches ≡ batches) × (next.last ≡ store.last)
 found_again law once store next disk mid batches least o s = once (folder_of disk) o.batches batches next.last store.last o.had (stands law store batches least disk s).have
 
 -- opened anew, all synced
 pub stays_reopened : StoresStand → BatchesAreOnce → (store next : Stored) (disk mid after : Disk) (batches : List Batch) (least : ℕ) → next.broken ≡ false → Opens (folder_of disk) next mid → after ≡ mid
-    → Stays store batches least disk → Stays next (batches ++ numbered (store.last + 1) []) (length batches) after
+    → IsServable store batches least disk → IsServable next (batches ++ numbered (store.last + 1) []) (length batches) after
 stays_reopened law once store next disk mid after batches least usable o same s =
     let found : o.batches ≡ batches = (found_again law once store next disk mid batches least o s).0 in
     record {
@@ -214,7 +214,7 @@ stays_reopened law once store next disk mid after batches least usable o same s 
 
 -- the store is opened anew
 pub reopened_line : StoresStand → BatchesAreOnce → (store next : Stored) (disk mid after : Disk) (told told_mid told_next : List ℕ) → next.broken ≡ false
-    → Opens (folder_of disk) next mid → after ≡ mid → told_mid ≡ told → told_next ≡ told_mid ++ ok_line → (batches : List Batch) × ((least : ℕ) × Stays store batches least disk)
+    → Opens (folder_of disk) next mid → after ≡ mid → told_mid ≡ told → told_next ≡ told_mid ++ ok_line → (batches : List Batch) × ((least : ℕ) × IsServable store batches least disk)
     → Obeyed (Go command.Reopen) store next disk after told told_next
 reopened_line law once store next disk mid after told told_mid told_next usable o same told_same told_is there =
     let line : Line = record { order = Go command.Reopen; wrote = []; told = ok_line } in
@@ -246,5 +246,5 @@ corrupt_was (store.Corrupt n p) name place is = let a : n ≡ name = cc is in le
 corrupt_was (store.Full number) name place is = cc is
 corrupt_was store.Broken name place is = cc is
 
-pub log_is_there : (store : Stored) (batches : List Batch) (least : ℕ) (disk : Disk) → Stays store batches least disk → IsSome (disk (log_name store.log.number))
+pub log_is_there : (store : Stored) (batches : List Batch) (least : ℕ) (disk : Disk) → IsServable store batches least disk → IsSome (disk (log_name store.log.number))
 log_is_there store batches least disk s = let P : Option File → Type 0 = IsSome in subst P (sym s.carries.on.holds.there) refl

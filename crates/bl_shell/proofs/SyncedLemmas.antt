@@ -16,7 +16,7 @@ use Rattle.bl_script.specs.declared.command.Parsed.TheVariants.{Nothing, Refused
 use Rattle.bl_store.specs.Folders.{Stands, LogStands}
 use Rattle.bl_store.specs.Logs.{after_batches}
 use Rattle.bl_store.specs.Laws.{BatchesMakeMap}
-use Rattle.bl_shell.specs.Machine.{State, Write, Line, Runs, after_writes, reply_of, told_by, written_by, operations_in, numbered, Began}
+use Rattle.bl_shell.specs.Machine.{State, Write, Line, Runs, after_writes, reply_of, told_by, written_by, operations_in, numbered, Start}
 use Rattle.bl_shell.specs.Synced.{syncs, whole_within, before_sync, synced, begun, StandsAfter}
 use Rattle.bl_shell.specs.Carried.{StandsFirst, IsMade}
 use Rattle.bl_shell.proofs.HistoryLemmas.{written_more}
@@ -162,7 +162,7 @@ after_numbered first [] m = refl
 after_numbered first (w ∷ writes) m = after_numbered (first + length w) writes _
 
 -- a folder of the batches found and of those of some writes
-pub log_stands : BatchesMakeMap → (began : Began) (folder : Folder) (writes : List Write) (left : ℕ) → IsMade began
+pub log_stands : BatchesMakeMap → (began : Start) (folder : Folder) (writes : List Write) (left : ℕ) → IsMade began
     → Stands folder (began.batches ++ numbered (began.last + 1) writes) left → LogStands folder (after_writes writes began.now)
 log_stands make began folder writes left made there =
     let bs = began.batches ++ numbered (began.last + 1) writes in
@@ -175,7 +175,7 @@ log_stands make began folder writes left made there =
     }
 
 -- no more of them than there are sequences
-writes_fit : (began : Began) (writes : List Write) (folder : Folder) (last : ℕ) → IsMade began → Stands folder (began.batches ++ numbered (began.last + 1) writes) last → began.last + operations_in writes < 2 ^ 56
+writes_fit : (began : Start) (writes : List Write) (folder : Folder) (last : ℕ) → IsMade began → Stands folder (began.batches ++ numbered (began.last + 1) writes) last → began.last + operations_in writes < 2 ^ 56
 writes_fit began writes folder last made there =
     let bs = numbered (began.last + 1) writes in
     let e = ends _ 0 last (began.batches ++ bs) there.have.are in
@@ -183,7 +183,7 @@ writes_fit began writes folder last made there =
     omega (arith, small, e.counted, operations_joined began.batches bs, operations_numbered (began.last + 1) writes, made.last_is)
 
 -- the first of the batches found and of those of a history's writes
-pub stands_after : BatchesMakeMap → (began : Began) (folder : Folder) (history : List Line) (count least : ℕ) → IsMade began
+pub stands_after : BatchesMakeMap → (began : Start) (folder : Folder) (history : List Line) (count least : ℕ) → IsMade began
     → length began.batches + synced count history ≤ least → length (written_by history) ≤ begun count history
     → StandsFirst folder (began.batches ++ numbered (began.last + 1) (written_by history)) least → StandsAfter folder began history count
 stands_after make began folder history count least made low high s =

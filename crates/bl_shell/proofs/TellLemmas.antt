@@ -1,6 +1,7 @@
 -- What is told where `tell` fails.
-use Rattle.std.proofs.Common.{◌≡◌, ℕ, List, [], ◌++◌, take, drop, Err, IsErrOf, refl, sym, ◌∙◌, ap, append-nil, append_assoc}
+use Rattle.std.proofs.Common.{◌≡◌, ℕ, List, [], ◌++◌, take, drop, Result, Ok, Err, IsErrOf, refl, sym, ◌∙◌, ap, append-nil}
 use Rattle.std.proofs.lemmas.List.{take-append-drop}
+use Rattle.std.specs.Result.{IfErr}
 use Rattle.bl_site.specs.declared.site.SiteErr.{SiteErr}
 use Rattle.bl_site.specs.declared.site.SiteErr.TheVariants as failed
 use Rattle.bl_site.specs.Causes.{HasTellCause}
@@ -8,30 +9,17 @@ use Rattle.bl_shell.specs.Carried.{TellsFront}
 use Rattle.bl_shell.specs.Causes.{stop_of}
 use Rattle.bl_shell.specs.declared.stop.Stop.TheVariants as stop
 
+-- what is said of each error
+pub each_err : {T E : Type 0} (r : Result T E) (P : E → Type 0) → ((e : E) → P e) → IfErr r P
+each_err (Ok x) P p = tt
+each_err (Err e) P p = p e
+
 -- some first bytes
 pub tells_count : (bytes told next : List ℕ) (count : ℕ) → next ≡ told ++ take count bytes → TellsFront bytes told next
 tells_count bytes told next count is = record { front = take count bytes; rest = drop count bytes; whole = take-append-drop count bytes; told_is = is }
 
 pub tells_nothing : (bytes told next : List ℕ) → next ≡ told → TellsFront bytes told next
 tells_nothing bytes told next same = record { front = []; rest = bytes; whole = refl; told_is = same ∙ sym (append-nil told) }
-
--- all of some first bytes, and a front of those behind them
-pub tells_behind : (first bytes told mid next : List ℕ) → mid ≡ told ++ first → TellsFront bytes mid next → TellsFront (first ++ bytes) told next
-tells_behind first bytes told mid next is t = record {
-  front = first ++ t.front;
-  rest = t.rest;
-  whole = append_assoc first t.front t.rest ∙ ap (λ b. first ++ b) t.whole;
-  told_is = t.told_is ∙ ap (λ m. m ++ t.front) is ∙ append_assoc told first t.front;
-}
-
--- of longer bytes
-pub tells_more : (bytes more told next : List ℕ) → TellsFront bytes told next → TellsFront (bytes ++ more) told next
-tells_more bytes more told next t = record {
-  front = t.front;
-  rest = t.rest ++ more;
-  whole = sym (append_assoc t.front t.rest more) ∙ ap (λ b. b ++ more) t.whole;
-  told_is = t.told_is;
-}
 
 pub tell_broke : {T : Type 0} (x : SiteErr) (before now : ℕ) (bytes reply told next : List ℕ) → bytes ≡ reply → HasTellCause {T = T} before now (Err x)
     → (IsErrOf {T = T} (Err x) failed.TellFailed → (count : ℕ) × (next ≡ told ++ take count bytes)) → (IsErrOf {T = T} (Err x) failed.OutOfMemory → next ≡ told) → TellsFront reply told next
@@ -44,3 +32,8 @@ pub no_limit : (x : SiteErr) (limit : ℕ) → stop_of x ≡ stop.Full limit →
 no_limit failed.DiskFailed limit is = cc is
 no_limit failed.TellFailed limit is = cc is
 no_limit failed.OutOfMemory limit is = cc is
+
+pub no_corrupt : (x : SiteErr) (name : List ℕ) (place : ℕ) → stop_of x ≡ stop.Corrupt name place → ⊥
+no_corrupt failed.DiskFailed name place is = cc is
+no_corrupt failed.TellFailed name place is = cc is
+no_corrupt failed.OutOfMemory name place is = cc is

@@ -19,7 +19,7 @@ use Rattle.bl_store.specs.Folders.{Stands}
 use Rattle.bl_store.specs.Logs.{after_batches}
 use Rattle.bl_store.specs.Stored.{Stored, Carries}
 use Rattle.bl_shell.specs.declared.lines.LineInHand.{LineInHand}
-use Rattle.bl_shell.specs.Machine.{State, Write, Line, Step, Runs, IsHistory, orders, orders_of, reply_of, writes_of, told_by, written_by, operations_in, numbered, reopens, reopens_in, Began}
+use Rattle.bl_shell.specs.Machine.{State, Write, Line, Step, Runs, IsHistory, orders, orders_of, reply_of, writes_of, told_by, written_by, operations_in, numbered, reopens, reopens_in, Start}
 use Rattle.bl_shell.specs.Synced.{syncs, before_sync, CutOf}
 
 abbrev pub state_of : Stored → State
@@ -35,7 +35,7 @@ abbrev pub Keeps : ℕ → Folder → Folder → Type 0
 Keeps first old new = (name : Name) → ((number : ℕ) → first ≤ number → IsNumber number → name ≢ log_name number) → new name ≡ old name
 
 -- A store that can be used stands on the disk, with these batches, at least so many of which every cut holds.
-pub record Stays (store : Stored) (batches : List Batch) (least : ℕ) (disk : Disk) : Type 0 where
+pub record IsServable (store : Stored) (batches : List Batch) (least : ℕ) (disk : Disk) : Type 0 where
   pub usable : store.broken ≡ false
   pub whole : store.log.failed ≡ false
   pub older : List Batch
@@ -83,7 +83,7 @@ pub record Obeyed (order : Parsed) (old new : Stored) (disk disk_after : Disk) (
   pub ordered : line.order ≡ order
   pub step : Step (state_of old) line (state_of new)
   pub told_is : told_after ≡ told ++ line.told
-  pub stays : (batches : List Batch) (least : ℕ) → Stays old batches least disk → Stays new (batches ++ numbered (old.last + 1) line.wrote) (if syncs order then length batches else least) disk_after
+  pub stays : (batches : List Batch) (least : ℕ) → IsServable old batches least disk → IsServable new (batches ++ numbered (old.last + 1) line.wrote) (if syncs order then length batches else least) disk_after
   pub last_is : new.last ≡ old.last + operations_in line.wrote
   pub number_is : new.log.number ≡ old.log.number + reopens order
   pub keeps : Keeps old.log.number (folder_of disk) (folder_of disk_after)
@@ -113,7 +113,7 @@ unfoldable pub operations_of : List Batch → ℕ
 operations_of batches = sum_by (λ b. length b.operations) batches
 
 -- the batches found make the map that a run began with, and have the sequences up to its last
-pub record IsMade (began : Began) : Type 0 where
+pub record IsMade (began : Start) : Type 0 where
   pub now_is : began.now ≡ after_batches began.batches empty
   pub last_is : began.last ≡ operations_of began.batches
 
@@ -123,8 +123,8 @@ pub record HasRoom (order : Parsed) (store : Stored) : Type 0 where
   pub number : store.log.number + reopens order < 10 ^ 15
 
 -- before the first byte of the script
-pub record Starts (began : Began) (folder : Folder) (store : Stored) (disk : Disk) : Type 0 where
-  pub stays : Stays store began.batches (length began.batches) disk
+pub record StandsAtStart (began : Start) (folder : Folder) (store : Stored) (disk : Disk) : Type 0 where
+  pub stays : IsServable store began.batches (length began.batches) disk
   pub now_is : store.now ≡ began.now
   pub made : IsMade began
   pub last_is : store.last ≡ began.last
@@ -132,7 +132,7 @@ pub record Starts (began : Began) (folder : Folder) (store : Stored) (disk : Dis
   pub keeps : Keeps began.number folder (folder_of disk)
 
 -- After these bytes of the script, of which the line in hand has a front of the next line, all is as the machine has it, and so was it at every cut.
-pub record Carried (began : Began) (folder : Folder) (told0 script : List ℕ) (store : Stored) (line : LineInHand) (disk : Disk) (told : List ℕ) (steady : (Cut → Type 0) → Type 0) : Type 0 where
+pub record Carried (began : Start) (folder : Folder) (told0 script : List ℕ) (store : Stored) (line : LineInHand) (disk : Disk) (told : List ℕ) (steady : (Cut → Type 0) → Type 0) : Type 0 where
   pub history : List Line
   pub front : List ℕ
   pub held : Holds line front
@@ -140,7 +140,7 @@ pub record Carried (began : Began) (folder : Folder) (told0 script : List ℕ) (
   pub cut : (more : List ℕ) → map parsed (lines_in [] (script ++ more)) ≡ orders_of history ++ map parsed (lines_in front more)
   pub runs : Runs (record { now = began.now }) history (state_of store)
   pub told_is : told ≡ told0 ++ told_by history
-  pub stays : Stays store (began.batches ++ numbered (began.last + 1) (written_by history)) (length began.batches + before_sync history) disk
+  pub stays : IsServable store (began.batches ++ numbered (began.last + 1) (written_by history)) (length began.batches + before_sync history) disk
   pub made : IsMade began
   pub cuts : steady (CutOf began (orders_of history) told0)
   pub last_is : store.last ≡ began.last + operations_in (written_by history)
@@ -148,11 +148,11 @@ pub record Carried (began : Began) (folder : Folder) (told0 script : List ℕ) (
   pub keeps : Keeps began.number folder (folder_of disk)
 
 -- the whole script has run
-pub record Finished (began : Began) (folder : Folder) (script told0 : List ℕ) (store : Stored) (disk : Disk) (told : List ℕ) (steady : (Cut → Type 0) → Type 0) : Type 0 where
+pub record Finished (began : Start) (folder : Folder) (script told0 : List ℕ) (store : Stored) (disk : Disk) (told : List ℕ) (steady : (Cut → Type 0) → Type 0) : Type 0 where
   pub history : List Line
   pub is_history : IsHistory began.now (orders script) history (state_of store)
   pub told_is : told ≡ told0 ++ told_by history
-  pub stays : Stays store (began.batches ++ numbered (began.last + 1) (written_by history)) (length began.batches + before_sync history) disk
+  pub stays : IsServable store (began.batches ++ numbered (began.last + 1) (written_by history)) (length began.batches + before_sync history) disk
   pub made : IsMade began
   pub cuts : steady (CutOf began (orders_of history) told0)
   pub last_is : store.last ≡ began.last + operations_in (written_by history)

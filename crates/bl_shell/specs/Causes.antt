@@ -46,14 +46,14 @@ IsSilent (stop.Corrupt name place) = ⊥
 IsSilent (stop.Full number) = ⊥
 
 -- a stop inside a line: not for what the script brings
-abbrev pub IsInner : Stop → Type 0
-IsInner stop.Read = ⊥
-IsInner stop.Tell = Unit {0}
-IsInner stop.Disk = Unit {0}
-IsInner stop.OutOfMemory = Unit {0}
-IsInner stop.Long = ⊥
-IsInner (stop.Corrupt name place) = Unit {0}
-IsInner (stop.Full number) = Unit {0}
+abbrev pub IsNotOfScript : Stop → Type 0
+IsNotOfScript stop.Read = ⊥
+IsNotOfScript stop.Tell = Unit {0}
+IsNotOfScript stop.Disk = Unit {0}
+IsNotOfScript stop.OutOfMemory = Unit {0}
+IsNotOfScript stop.Long = ⊥
+IsNotOfScript (stop.Corrupt name place) = Unit {0}
+IsNotOfScript (stop.Full number) = Unit {0}
 
 -- more bytes were taken than the limit, or the count stands where it cannot rise
 abbrev pub TookOver : ℕ → ℕ → ℕ → Type 0
@@ -111,5 +111,5 @@ EndsAs meant status line told told_after =
     ((status ≡ meant) × (told_after ≡ told ++ line)) ⊎ ((status ≡ TellFault) × TellsFront line told told_after) ⊎ ((status ≡ OutOfMemory) × (told_after ≡ told))
 
 -- how a run over a damaged folder may end
-abbrev pub IsRefusal : Status → Type 0
-IsRefusal s = (s ≡ Corrupt) ⊎ (s ≡ DiskFault) ⊎ (s ≡ TellFault) ⊎ (s ≡ OutOfMemory)
+abbrev pub IsOfDamaged : Status → Type 0
+IsOfDamaged s = (s ≡ Corrupt) ⊎ (s ≡ DiskFault) ⊎ (s ≡ TellFault) ⊎ (s ≡ OutOfMemory)

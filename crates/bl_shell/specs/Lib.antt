@@ -4,3 +4,4 @@ pub mod Carried
 pub mod Telling
 pub mod Cuts
 pub mod Causes
+pub mod Laws

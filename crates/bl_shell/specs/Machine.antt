@@ -128,13 +128,13 @@ reopens_in [] = 0
 reopens_in (line ∷ lines) = reopens line.order + reopens_in lines
 
 -- where a run began: the batches of the folder, its last sequence, its map, and the number of the first log made
-pub record Began : Type 0 where
+pub record Start : Type 0 where
   pub batches : List Batch
   pub last : ℕ
   pub now : Map
   pub number : ℕ
 
 -- These lines pass no limit: there was a sequence for each operation, and a number for each log.
-pub record Fits (began : Began) (history : List Line) : Type 0 where
+pub record Fits (began : Start) (history : List Line) : Type 0 where
   pub sequences : began.last + operations_in (written_by history) < 2 ^ 56
   pub numbers : began.number + reopens_in history < 10 ^ 15

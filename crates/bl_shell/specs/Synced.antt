@@ -9,7 +9,7 @@ use Rattle.bl_script.specs.declared.command.Parsed.TheVariants.{Nothing, Refused
 use Rattle.bl_records.specs.Chance.{NoChanceMatch}
 use Rattle.bl_store.specs.Cuts.{AreLeftWhole}
 use Rattle.bl_store.specs.Folders.{LogStands}
-use Rattle.bl_shell.specs.Machine.{State, Line, IsHistory, told_by, written_by, operations_in, after_writes, Began}
+use Rattle.bl_shell.specs.Machine.{State, Line, IsHistory, told_by, written_by, operations_in, after_writes, Start}
 
 -- its reply says that all writes before it are on the disk
 abbrev pub is_syncing : Command → Bool
@@ -46,7 +46,7 @@ begun count [] = 0
 begun count (line ∷ more) = length line.wrote + (if nat_le (length line.told) count then begun (count - length line.told) more else 0)
 
 -- The folder stands for the map after some of a history's writes: at least those acknowledged as synced, at most those begun, by the bytes of replies that were told, and none that passes the limit.
-pub record StandsAfter (folder : Folder) (began : Began) (history : List Line) (count : ℕ) : Type 0 where
+pub record StandsAfter (folder : Folder) (began : Start) (history : List Line) (count : ℕ) : Type 0 where
   pub writes : ℕ
   pub at_least : synced count history ≤ writes
   pub at_most : writes ≤ begun count history
@@ -54,7 +54,7 @@ pub record StandsAfter (folder : Folder) (began : Began) (history : List Line) (
   pub stands : LogStands folder (after_writes (take writes (written_by history)) began.now)
 
 -- A cut of a run that obeys these orders: a front of the replies was told, older logs are left whole and, unless a torn fragment's checksum matches by chance, the folder stands for the map after a prefix of the writes.
-pub record CutOf (began : Began) (given : List Parsed) (told : List ℕ) (c : Cut) : Type 0 where
+pub record CutOf (began : Start) (given : List Parsed) (told : List ℕ) (c : Cut) : Type 0 where
   pub history : List Line
   pub last : State
   pub is_history : IsHistory began.now given history last

@@ -5,12 +5,12 @@ ghost use Rattle.bl_site.specs.Disk.{Name, Folder, folder_of};
 ghost use Rattle.bl_site.specs.Calls.{LeavesOnly};
 ghost use Rattle.bl_site.specs.Causes.{Rose};
 ghost use Rattle.bl_store.specs.Stored.{KeepsOthers};
-ghost use Rattle.bl_shell.specs.Causes.{IsInner, IsReading, IsSilent, TookOver};
-ghost use Rattle.bl_shell.specs.Carried.{Carried, Starts, Finished, Steady, NoLineEnd};
+ghost use Rattle.bl_shell.specs.Causes.{IsNotOfScript, IsReading, IsSilent, TookOver};
+ghost use Rattle.bl_shell.specs.Carried.{Carried, StandsAtStart, Finished, Steady, NoLineEnd};
 ghost use Rattle.bl_shell.specs.Cuts.{IsKept, Stops};
-ghost use Rattle.bl_shell.specs.Machine.{orders, Began};
+ghost use Rattle.bl_shell.specs.Machine.{orders, Start};
 ghost use Rattle.bl_shell.specs.Synced.{CutOf};
-ghost use Rattle.bl_shell.specs.Telling.{Begins, HasRun, HasTaken, HasBegun};
+ghost use Rattle.bl_shell.specs.Telling.{IsStartOf, HasRun, HasTaken, HasBegun, HasFaltered};
 
 use crate::lines::LineInHand;
 use crate::obey::obey;
@@ -46,29 +46,33 @@ fn end_line<S: Site>(
     site: &mut S,
 ) -> Result<(), Stop>
     requires usable { store.old.broken ≡ false }
-    requires there { S.shows → (began : Began) × ((folder : Folder) × ((told : List ℕ) × ((script : List ℕ) × ((start : S)
+    requires there { S.shows → (began : Start) × ((folder : Folder) × ((told : List ℕ) × ((script : List ℕ) × ((start : S)
         × Carried began folder told script store.old line.old (S.disk site.old) (S.told site.old) (Steady S.certain S.clock S.left_since start site.old))))) }
     ensures cleared { OnOk result ((line.new.long ≡ false) × (line.new.bytes.items ≡ [])) }
     ensures usable { OnOk result (store.new.broken ≡ false) }
-    ensures ok { S.shows → OnOk result ((began : Began) (folder : Folder) (told script : List ℕ) (start : S)
+    ensures ok { S.shows → OnOk result ((began : Start) (folder : Folder) (told script : List ℕ) (start : S)
         → Carried began folder told script store.old line.old (S.disk site.old) (S.told site.old) (Steady S.certain S.clock S.left_since start site.old)
         → Carried began folder told (script ++ 10 ∷ []) store.new line.new (S.disk site.new) (S.told site.new) (Steady S.certain S.clock S.left_since start site.new)) }
-    ensures front { S.shows → IfErr result (λ e. IsSilent e → (began : Began) (folder : Folder) (told script more : List ℕ) (start : S) → Begins folder began
+    ensures front { S.shows → IfErr result (λ e. IsSilent e → (began : Start) (folder : Folder) (told script more : List ℕ) (start : S) → IsStartOf folder began
         → Carried began folder told script store.old line.old (S.disk site.old) (S.told site.old) (Steady S.certain S.clock S.left_since start site.old)
         → HasBegun folder (script ++ 10 ∷ more) told (S.told site.new)) }
-    ensures full { S.shows → (limit : ℕ) → result ≡ Err (Stop.Full limit) → (began : Began) (folder : Folder) (told script more : List ℕ) (start : S) → Begins folder began
+    ensures faltered { S.shows → IsErrOf result Stop.Tell → (began : Start) (folder : Folder) (told script more : List ℕ) (start : S) → IsStartOf folder began
         → Carried began folder told script store.old line.old (S.disk site.old) (S.told site.old) (Steady S.certain S.clock S.left_since start site.old)
-        → Stops folder (script ++ 10 ∷ more) told (S.told site.new) limit (LeavesOnly S.clock S.left_since start site.new) }
-    ensures cuts { S.shows → (began : Began) (folder : Folder) (told script more : List ℕ) (start : S)
+        → HasFaltered folder (folder_of (S.disk site.new)) (script ++ 10 ∷ more) told (S.told site.new) }
+    ensures full { S.shows → (limit : ℕ) → result ≡ Err (Stop.Full limit) → (began : Start) (folder : Folder) (told script more : List ℕ) (start : S) → IsStartOf folder began
+        → Carried began folder told script store.old line.old (S.disk site.old) (S.told site.old) (Steady S.certain S.clock S.left_since start site.old)
+        → Stops folder (folder_of (S.disk site.new)) (script ++ 10 ∷ more) told (S.told site.new) limit (LeavesOnly S.clock S.left_since start site.new) }
+    ensures cuts { S.shows → (began : Start) (folder : Folder) (told script more : List ℕ) (start : S)
         → Carried began folder told script store.old line.old (S.disk site.old) (S.told site.old) (Steady S.certain S.clock S.left_since start site.old)
         → LeavesOnly S.clock S.left_since start site.new (CutOf began (orders (script ++ 10 ∷ more)) told) }
     ensures corrupt { S.shows → (name : Name) (place : ℕ) → result ≡ Err (Stop.Corrupt name place) → ⊥ }
     ensures disk { IsErrOf result Stop.Disk → Rose (S.disk_faults site.old) (S.disk_faults site.new) }
     ensures tell { IsErrOf result Stop.Tell → Rose (S.tell_faults site.old) (S.tell_faults site.new) }
-    ensures causes { IfErr result IsInner }
+    ensures causes { IfErr result IsNotOfScript }
     ensures others { S.shows → KeepsOthers (S.disk site.old) (S.disk site.new) }
     ensures later { (S.disk_faults site.old ≤ S.disk_faults site.new) × (S.tell_faults site.old ≤ S.tell_faults site.new) }
 {
+    stores_stand();
     batches_make_the_map();
     let order = line.parse(alloc)?;
     obey(store, alloc, order, site)?;
@@ -85,25 +89,28 @@ fn feed<S: Site>(
     site: &mut S,
 ) -> Result<(), Stop>
     requires usable { store.old.broken ≡ false }
-    requires there { S.shows → (began : Began) × ((folder : Folder) × ((told : List ℕ) × ((script : List ℕ) × ((start : S)
+    requires there { S.shows → (began : Start) × ((folder : Folder) × ((told : List ℕ) × ((script : List ℕ) × ((start : S)
         × Carried began folder told script store.old line.old (S.disk site.old) (S.told site.old) (Steady S.certain S.clock S.left_since start site.old))))) }
     ensures usable { OnOk result (store.new.broken ≡ false) }
-    ensures ok { S.shows → OnOk result ((began : Began) (folder : Folder) (told script : List ℕ) (start : S)
+    ensures ok { S.shows → OnOk result ((began : Start) (folder : Folder) (told script : List ℕ) (start : S)
         → Carried began folder told script store.old line.old (S.disk site.old) (S.told site.old) (Steady S.certain S.clock S.left_since start site.old)
         → Carried began folder told (script ++ piece.now) store.new line.new (S.disk site.new) (S.told site.new) (Steady S.certain S.clock S.left_since start site.new)) }
-    ensures front { S.shows → IfErr result (λ e. IsSilent e → (began : Began) (folder : Folder) (told script more : List ℕ) (start : S) → Begins folder began
+    ensures front { S.shows → IfErr result (λ e. IsSilent e → (began : Start) (folder : Folder) (told script more : List ℕ) (start : S) → IsStartOf folder began
         → Carried began folder told script store.old line.old (S.disk site.old) (S.told site.old) (Steady S.certain S.clock S.left_since start site.old)
         → HasBegun folder (script ++ (piece.now ++ more)) told (S.told site.new)) }
-    ensures full { S.shows → (limit : ℕ) → result ≡ Err (Stop.Full limit) → (began : Began) (folder : Folder) (told script more : List ℕ) (start : S) → Begins folder began
+    ensures faltered { S.shows → IsErrOf result Stop.Tell → (began : Start) (folder : Folder) (told script more : List ℕ) (start : S) → IsStartOf folder began
         → Carried began folder told script store.old line.old (S.disk site.old) (S.told site.old) (Steady S.certain S.clock S.left_since start site.old)
-        → Stops folder (script ++ (piece.now ++ more)) told (S.told site.new) limit (LeavesOnly S.clock S.left_since start site.new) }
-    ensures cuts { S.shows → (began : Began) (folder : Folder) (told script more : List ℕ) (start : S)
+        → HasFaltered folder (folder_of (S.disk site.new)) (script ++ (piece.now ++ more)) told (S.told site.new) }
+    ensures full { S.shows → (limit : ℕ) → result ≡ Err (Stop.Full limit) → (began : Start) (folder : Folder) (told script more : List ℕ) (start : S) → IsStartOf folder began
+        → Carried began folder told script store.old line.old (S.disk site.old) (S.told site.old) (Steady S.certain S.clock S.left_since start site.old)
+        → Stops folder (folder_of (S.disk site.new)) (script ++ (piece.now ++ more)) told (S.told site.new) limit (LeavesOnly S.clock S.left_since start site.new) }
+    ensures cuts { S.shows → (began : Start) (folder : Folder) (told script more : List ℕ) (start : S)
         → Carried began folder told script store.old line.old (S.disk site.old) (S.told site.old) (Steady S.certain S.clock S.left_since start site.old)
         → LeavesOnly S.clock S.left_since start site.new (CutOf began (orders (script ++ (piece.now ++ more))) told) }
     ensures corrupt { S.shows → (name : Name) (place : ℕ) → result ≡ Err (Stop.Corrupt name place) → ⊥ }
     ensures disk { IsErrOf result Stop.Disk → Rose (S.disk_faults site.old) (S.disk_faults site.new) }
     ensures tell { IsErrOf result Stop.Tell → Rose (S.tell_faults site.old) (S.tell_faults site.new) }
-    ensures causes { IfErr result IsInner }
+    ensures causes { IfErr result IsNotOfScript }
     ensures others { S.shows → KeepsOthers (S.disk site.old) (S.disk site.new) }
     ensures later { (S.disk_faults site.old ≤ S.disk_faults site.new) × (S.tell_faults site.old ≤ S.tell_faults site.new) }
 {
@@ -125,25 +132,28 @@ fn end_script<S: Site>(
     site: &mut S,
 ) -> Result<(), Stop>
     requires usable { store.old.broken ≡ false }
-    requires there { S.shows → (began : Began) × ((folder : Folder) × ((told : List ℕ) × ((script : List ℕ) × ((start : S)
+    requires there { S.shows → (began : Start) × ((folder : Folder) × ((told : List ℕ) × ((script : List ℕ) × ((start : S)
         × Carried began folder told script store.old line.old (S.disk site.old) (S.told site.old) (Steady S.certain S.clock S.left_since start site.old))))) }
     ensures usable { OnOk result (store.new.broken ≡ false) }
-    ensures ok { S.shows → OnOk result ((began : Began) (folder : Folder) (told script : List ℕ) (start : S)
+    ensures ok { S.shows → OnOk result ((began : Start) (folder : Folder) (told script : List ℕ) (start : S)
         → Carried began folder told script store.old line.old (S.disk site.old) (S.told site.old) (Steady S.certain S.clock S.left_since start site.old)
         → Finished began folder script told store.new (S.disk site.new) (S.told site.new) (Steady S.certain S.clock S.left_since start site.new)) }
-    ensures front { S.shows → IfErr result (λ e. IsSilent e → (began : Began) (folder : Folder) (told script : List ℕ) (start : S) → Begins folder began
+    ensures front { S.shows → IfErr result (λ e. IsSilent e → (began : Start) (folder : Folder) (told script : List ℕ) (start : S) → IsStartOf folder began
         → Carried began folder told script store.old line.old (S.disk site.old) (S.told site.old) (Steady S.certain S.clock S.left_since start site.old)
         → HasBegun folder script told (S.told site.new)) }
-    ensures full { S.shows → (limit : ℕ) → result ≡ Err (Stop.Full limit) → (began : Began) (folder : Folder) (told script : List ℕ) (start : S) → Begins folder began
+    ensures faltered { S.shows → IsErrOf result Stop.Tell → (began : Start) (folder : Folder) (told script : List ℕ) (start : S) → IsStartOf folder began
         → Carried began folder told script store.old line.old (S.disk site.old) (S.told site.old) (Steady S.certain S.clock S.left_since start site.old)
-        → Stops folder script told (S.told site.new) limit (LeavesOnly S.clock S.left_since start site.new) }
-    ensures cuts { S.shows → (began : Began) (folder : Folder) (told script : List ℕ) (start : S)
+        → HasFaltered folder (folder_of (S.disk site.new)) script told (S.told site.new) }
+    ensures full { S.shows → (limit : ℕ) → result ≡ Err (Stop.Full limit) → (began : Start) (folder : Folder) (told script : List ℕ) (start : S) → IsStartOf folder began
+        → Carried began folder told script store.old line.old (S.disk site.old) (S.told site.old) (Steady S.certain S.clock S.left_since start site.old)
+        → Stops folder (folder_of (S.disk site.new)) script told (S.told site.new) limit (LeavesOnly S.clock S.left_since start site.new) }
+    ensures cuts { S.shows → (began : Start) (folder : Folder) (told script : List ℕ) (start : S)
         → Carried began folder told script store.old line.old (S.disk site.old) (S.told site.old) (Steady S.certain S.clock S.left_since start site.old)
         → LeavesOnly S.clock S.left_since start site.new (CutOf began (orders script) told) }
     ensures corrupt { S.shows → (name : Name) (place : ℕ) → result ≡ Err (Stop.Corrupt name place) → ⊥ }
     ensures disk { IsErrOf result Stop.Disk → Rose (S.disk_faults site.old) (S.disk_faults site.new) }
     ensures tell { IsErrOf result Stop.Tell → Rose (S.tell_faults site.old) (S.tell_faults site.new) }
-    ensures causes { IfErr result IsInner }
+    ensures causes { IfErr result IsNotOfScript }
     ensures others { S.shows → KeepsOthers (S.disk site.old) (S.disk site.new) }
     ensures later { (S.disk_faults site.old ≤ S.disk_faults site.new) × (S.tell_faults site.old ≤ S.tell_faults site.new) }
 {
@@ -161,27 +171,30 @@ fn finish<S: Site>(
     site: &mut S,
 ) -> Result<(), Stop>
     requires usable { store.old.broken ≡ false }
-    requires there { S.shows → (began : Began) × ((folder : Folder) × ((told : List ℕ) × ((script : List ℕ) × ((start : S)
+    requires there { S.shows → (began : Start) × ((folder : Folder) × ((told : List ℕ) × ((script : List ℕ) × ((start : S)
         × Carried began folder told script store.old line.old (S.disk site.old) (S.told site.old) (Steady S.certain S.clock S.left_since start site.old))))) }
-    ensures ok { S.shows → OnOk result ((began : Began) (folder : Folder) (told script : List ℕ) (start : S) → Begins folder began
+    ensures ok { S.shows → OnOk result ((began : Start) (folder : Folder) (told script : List ℕ) (start : S) → IsStartOf folder began
         → Carried began folder told script store.old line.old (S.disk site.old) (S.told site.old) (Steady S.certain S.clock S.left_since start site.old)
         → HasRun folder (folder_of (S.disk site.new)) script told (S.told site.new)) }
-    ensures kept { S.shows → OnOk result ((began : Began) (folder : Folder) (told script : List ℕ) (start : S) → Begins folder began
+    ensures kept { S.shows → OnOk result ((began : Start) (folder : Folder) (told script : List ℕ) (start : S) → IsStartOf folder began
         → Carried began folder told script store.old line.old (S.disk site.old) (S.told site.old) (Steady S.certain S.clock S.left_since start site.old)
         → IsKept (S.certain site.new) (S.may_be site.new) (S.disk site.new) (S.told site.new) folder script) }
-    ensures front { S.shows → IfErr result (λ e. IsSilent e → (began : Began) (folder : Folder) (told script : List ℕ) (start : S) → Begins folder began
+    ensures front { S.shows → IfErr result (λ e. IsSilent e → (began : Start) (folder : Folder) (told script : List ℕ) (start : S) → IsStartOf folder began
         → Carried began folder told script store.old line.old (S.disk site.old) (S.told site.old) (Steady S.certain S.clock S.left_since start site.old)
         → HasBegun folder script told (S.told site.new)) }
-    ensures full { S.shows → (limit : ℕ) → result ≡ Err (Stop.Full limit) → (began : Began) (folder : Folder) (told script : List ℕ) (start : S) → Begins folder began
+    ensures faltered { S.shows → IsErrOf result Stop.Tell → (began : Start) (folder : Folder) (told script : List ℕ) (start : S) → IsStartOf folder began
         → Carried began folder told script store.old line.old (S.disk site.old) (S.told site.old) (Steady S.certain S.clock S.left_since start site.old)
-        → Stops folder script told (S.told site.new) limit (LeavesOnly S.clock S.left_since start site.new) }
-    ensures cuts { S.shows → (began : Began) (folder : Folder) (told script : List ℕ) (start : S)
+        → HasFaltered folder (folder_of (S.disk site.new)) script told (S.told site.new) }
+    ensures full { S.shows → (limit : ℕ) → result ≡ Err (Stop.Full limit) → (began : Start) (folder : Folder) (told script : List ℕ) (start : S) → IsStartOf folder began
+        → Carried began folder told script store.old line.old (S.disk site.old) (S.told site.old) (Steady S.certain S.clock S.left_since start site.old)
+        → Stops folder (folder_of (S.disk site.new)) script told (S.told site.new) limit (LeavesOnly S.clock S.left_since start site.new) }
+    ensures cuts { S.shows → (began : Start) (folder : Folder) (told script : List ℕ) (start : S)
         → Carried began folder told script store.old line.old (S.disk site.old) (S.told site.old) (Steady S.certain S.clock S.left_since start site.old)
         → LeavesOnly S.clock S.left_since start site.new (CutOf began (orders script) told) }
     ensures corrupt { S.shows → (name : Name) (place : ℕ) → result ≡ Err (Stop.Corrupt name place) → ⊥ }
     ensures disk { IsErrOf result Stop.Disk → Rose (S.disk_faults site.old) (S.disk_faults site.new) }
     ensures tell { IsErrOf result Stop.Tell → Rose (S.tell_faults site.old) (S.tell_faults site.new) }
-    ensures causes { IfErr result IsInner }
+    ensures causes { IfErr result IsNotOfScript }
     ensures others { S.shows → KeepsOthers (S.disk site.old) (S.disk site.new) }
     ensures later { (S.disk_faults site.old ≤ S.disk_faults site.new) × (S.tell_faults site.old ≤ S.tell_faults site.new) }
 {
@@ -206,18 +219,20 @@ pub(crate) fn serve<R: Source, S: Site>(
     requires small { length buffer.old ≤ 2 ^ 20 }
     requires usable { store.old.broken ≡ false }
     requires certain { S.shows → S.certain site.old }
-    requires there { S.shows → (began : Began) × ((folder : Folder) × Starts began folder store.old (S.disk site.old)) }
-    ensures ok { S.shows → R.shows → OnOk result ((began : Began) (folder : Folder) → Begins folder began → Starts began folder store.old (S.disk site.old)
+    requires there { S.shows → (began : Start) × ((folder : Folder) × StandsAtStart began folder store.old (S.disk site.old)) }
+    ensures ok { S.shows → R.shows → OnOk result ((began : Start) (folder : Folder) → IsStartOf folder began → StandsAtStart began folder store.old (S.disk site.old)
         → HasRun folder (folder_of (S.disk site.new)) (R.left script.old) (S.told site.old) (S.told site.new)) }
-    ensures kept { S.shows → R.shows → OnOk result ((began : Began) (folder : Folder) → Begins folder began → Starts began folder store.old (S.disk site.old)
+    ensures kept { S.shows → R.shows → OnOk result ((began : Start) (folder : Folder) → IsStartOf folder began → StandsAtStart began folder store.old (S.disk site.old)
         → IsKept (S.certain site.new) (S.may_be site.new) (S.disk site.new) (S.told site.new) folder (R.left script.old)) }
-    ensures front { S.shows → R.shows → IfErr result (λ e. IsSilent e → (began : Began) (folder : Folder) → Begins folder began → Starts began folder store.old (S.disk site.old)
+    ensures front { S.shows → R.shows → IfErr result (λ e. IsSilent e → (began : Start) (folder : Folder) → IsStartOf folder began → StandsAtStart began folder store.old (S.disk site.old)
         → HasBegun folder (R.left script.old) (S.told site.old) (S.told site.new)) }
-    ensures taken { S.shows → R.shows → IfErr result (λ e. IsReading e → (began : Began) (folder : Folder) → Begins folder began → Starts began folder store.old (S.disk site.old)
-        → (taken : List ℕ) × (taken ++ R.left script.new ≡ R.left script.old) × HasTaken folder taken (S.told site.old) (S.told site.new)) }
-    ensures full { S.shows → R.shows → (limit : ℕ) → result ≡ Err (Stop.Full limit) → (began : Began) (folder : Folder) → Begins folder began → Starts began folder store.old (S.disk site.old)
-        → Stops folder (R.left script.old) (S.told site.old) (S.told site.new) limit (LeavesOnly S.clock S.left_since site.old site.new) }
-    ensures cuts { S.shows → R.shows → (began : Began) (folder : Folder) → Starts began folder store.old (S.disk site.old)
+    ensures taken { S.shows → R.shows → IfErr result (λ e. IsReading e → (began : Start) (folder : Folder) → IsStartOf folder began → StandsAtStart began folder store.old (S.disk site.old)
+        → (taken : List ℕ) × (taken ++ R.left script.new ≡ R.left script.old) × (e ≡ Stop.Long → 2 ^ 40 < length taken) × HasTaken folder (folder_of (S.disk site.new)) taken (S.told site.old) (S.told site.new)) }
+    ensures faltered { S.shows → R.shows → IsErrOf result Stop.Tell → (began : Start) (folder : Folder) → IsStartOf folder began → StandsAtStart began folder store.old (S.disk site.old)
+        → HasFaltered folder (folder_of (S.disk site.new)) (R.left script.old) (S.told site.old) (S.told site.new) }
+    ensures full { S.shows → R.shows → (limit : ℕ) → result ≡ Err (Stop.Full limit) → (began : Start) (folder : Folder) → IsStartOf folder began → StandsAtStart began folder store.old (S.disk site.old)
+        → Stops folder (folder_of (S.disk site.new)) (R.left script.old) (S.told site.old) (S.told site.new) limit (LeavesOnly S.clock S.left_since site.old site.new) }
+    ensures cuts { S.shows → R.shows → (began : Start) (folder : Folder) → StandsAtStart began folder store.old (S.disk site.old)
         → LeavesOnly S.clock S.left_since site.old site.new (CutOf began (orders (R.left script.old)) (S.told site.old)) }
     ensures corrupt { S.shows → (name : Name) (place : ℕ) → result ≡ Err (Stop.Corrupt name place) → ⊥ }
     ensures ended { R.shows → OnOk result (R.left script.new ≡ []) }
@@ -230,6 +245,7 @@ pub(crate) fn serve<R: Source, S: Site>(
     ensures later { S.tell_faults site.old ≤ S.tell_faults site.new }
 {
     cuts_stand();
+    stores_stand();
     batches_make_the_map();
     let mut line = LineInHand::new(alloc);
     let mut taken: u64 = 0;

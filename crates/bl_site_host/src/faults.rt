@@ -1,5 +1,5 @@
-// What can go wrong on the host, and how it is counted.
-ghost use Rattle.std.specs.Prelude.{◌≡◌, ◌⊎◌, Ok, Err, IfErr, IsErr, IsErrOf, IsTrue, MatchResult};
+//! What can go wrong on the host, and how it is counted.
+ghost use Rattle.std.specs.Prelude.{◌≡◌, ◌≢◌, ◌⊎◌, Ok, Err, IfErr, IsErr, IsErrOf, IsTrue, MatchResult};
 ghost use Rattle.bl_site.specs.Causes.{HasDiskCause};
 ghost use Rattle.bl_site.specs.declared.site.SiteErr.TheVariants.{OutOfMemory};
 ghost use Rattle.bl_site_host.specs.Faults.{IsCounted};
@@ -9,25 +9,24 @@ use bl_site::SiteErr;
 use std::alloc::{AllocError, AllocFailed};
 use std::io::{self, ErrorKind};
 
-#[derive(Clone, Copy, Debug, PartialEq, Eq)]
+#[derive(Clone, Copy)]
 pub(crate) enum Fault {
-    // The system failed.
-    Disk,
+    // The system failed, for this reason.
+    Disk(io::Error),
     // Want of memory, before anything was changed.
     Memory,
 }
 
 // Of a call before anything was changed.
 impl From<io::Error> for Fault {
-    ghost use Rattle.std.specs.IoError.{error_kind};
     ghost use Rattle.bl_site_host.specs.Faults.{fault_of};
 
-    ghost from_gives = { λ e fault. fault ≡ fault_of (error_kind e) };
+    ghost from_gives = { λ e fault. fault ≡ fault_of e };
 
     fn from(e: io::Error) -> Self {
         match e.kind() {
             ErrorKind::OutOfMemory => Fault::Memory,
-            _ => Fault::Disk,
+            _ => Fault::Disk(e),
         }
     }
 }
@@ -50,12 +49,12 @@ impl<T: Drop> From<AllocFailed<T>> for Fault {
 
 // Of a call that may have changed something: it is never for want of memory.
 pub(crate) fn changed<T: Drop>(done: io::Result<T>) -> Result<T, Fault>
-    ensures answered { MatchResult done (λ value. result ≡ Ok value) (λ _. result ≡ Err Disk) }
-    ensures disk { IfErr result (λ fault. fault ≡ Disk) }
+    ensures answered { MatchResult done (λ value. result ≡ Ok value) (λ e. result ≡ Err (Disk e)) }
+    ensures disk { IfErr result (λ fault. fault ≢ Memory) }
 {
     match done {
         Ok(value) => Ok(value),
-        Err(_) => Err(Fault::Disk),
+        Err(e) => Err(Fault::Disk(e)),
     }
 }
 
@@ -68,7 +67,7 @@ pub(crate) fn counted<T: Drop>(faults: &mut u64, done: Result<T, Fault>) -> Resu
     match done {
         Ok(value) => Ok(value),
         Err(Fault::Memory) => Err(SiteErr::OutOfMemory),
-        Err(Fault::Disk) => {
+        Err(Fault::Disk(_)) => {
             *faults = faults.saturating_add(1);
             Err(SiteErr::DiskFailed)
         }
@@ -81,10 +80,15 @@ pub(crate) fn synced(lost: &mut bool, done: io::Result<()>) -> Result<(), Fault>
     ensures for_good { IsTrue lost.old → IsErr result }
     ensures marked { IsErr result → IsTrue lost.new }
     ensures only { IsTrue lost.new → (IsTrue lost.old ⊎ IsErr done) }
-    ensures disk { IfErr result (λ fault. fault ≡ Disk) }
+    ensures done { IsErr done → IsErr result }
+    ensures disk { IfErr result (λ fault. fault ≢ Memory) }
 {
-    if done.is_err() {
+    if let Err(e) = done {
         *lost = true;
+        return Err(Fault::Disk(e));
     }
-    if *lost { Err(Fault::Disk) } else { Ok(()) }
+    if *lost {
+        return Err(Fault::Disk(io::Error::new(ErrorKind::Other, "an earlier sync failed")));
+    }
+    Ok(())
 }

@@ -1,56 +1,56 @@
-// The current folder.
-ghost use Rattle.std.specs.Prelude.{◌≤◌, ◌<◌, length, IfOk, IfSome, IsTrue, IsErr};
+//! The current folder. What is no regular file, as a link, a pipe or a folder, is never opened, followed, emptied or waited for.
+ghost use Rattle.std.specs.Prelude.{◌≡◌, ◌≤◌, ◌<◌, ◌∷◌, [], List, Option, length, take, map, true, false, IfOk, IfSome, IsTrue, IsErr, OnOk, slice_index_or};
+ghost use Rattle.std.specs.String.{string_bytes};
+ghost use Rattle.bl_site.specs.Disk.{Name};
+ghost use Rattle.bl_site_host.specs.Events.{Event, Looked, Listing, Read, Wrote, SyncedFile, SyncedFolder, Renamed, Removed, SawNoOther, IsNewest, IsOn, IsMade, IsOnDisk, files_of, found_of};
+ghost use Rattle.bl_site_host.specs.Handles.{StaysSound, IsSound, IsLetGo, IsPlaceOf};
 
 use crate::faults::{Fault, changed, synced};
 use crate::handles::Handles;
-use crate::moving::{read_full, write_whole};
+use crate::system::{Found, Listed, System};
 use std::alloc::Global;
-use std::fs::{self, OpenFile, OpenOptions};
-use std::io::{ErrorKind, Seek, SeekFrom, Write};
-use std::rt::Files;
+use std::io::{self, ErrorKind};
 
 #[derive(Drop)]
-pub(crate) struct Folder<R: Files + AllocGlobal + Clone + Drop> {
-    pub(crate) rt: R,
-    handles: Handles<R::File>,
+pub(crate) struct Folder<S: System + Drop> {
+    pub(crate) system: S,
+    handles: Handles<S::File>,
+    alloc: Global,
     // Whether the system has failed to put something on the disk.
     lost: bool,
 }
 
-impl<R: Files + AllocGlobal + Clone + Drop> Folder<R> {
-    pub(crate) fn new(rt: R) -> Folder<R> {
-        let handles = Handles::new(rt.alloc());
+impl<S: System + Drop> Folder<S> {
+    pub(crate) fn new(alloc: Global, system: S) -> Folder<S>
+        ensures { S.calls system ≡ [] → IsSound S.id (S.calls result.system) result.handles.open.items }
+    {
         Folder {
-            rt,
-            handles,
+            system,
+            handles: Handles::new(alloc),
+            alloc,
             lost: false,
         }
     }
 
-    pub(crate) fn length(&self, name: &str) -> Result<Option<u64>, Fault> {
-        match fs::symlink_metadata(&self.rt, name) {
-            Ok(data) if data.is_file() => Ok(Some(data.len())),
-            Ok(_) => Ok(None),
-            Err(e) if e.kind() == ErrorKind::NotFound => Ok(None),
-            Err(e) => Err(Fault::from(e)),
+    pub(crate) fn length(&mut self, name: &str) -> Result<Option<u64>, Fault>
+        ensures lost { self.new.lost ≡ self.old.lost }
+        ensures seen { S.shows → IfOk result (λ length. S.calls self.new.system ≡ Looked name.now (Some (found_of length)) ∷ S.calls self.old.system) }
+        ensures sound { S.shows → StaysSound S.id (S.calls self.old.system) self.old.handles.open.items (S.calls self.new.system) self.new.handles.open.items }
+    {
+        match self.system.look(name)? {
+            Found::Nothing => Ok(None),
+            Found::File(length) => Ok(Some(length)),
+            Found::Other => Err(not_regular()),
         }
     }
 
     // The regular files whose names are UTF-8.
-    pub(crate) fn names(&self, alloc: Global) -> Result<Vec<String>, Fault> {
-        let mut names = Vec::new(alloc);
-        for entry in fs::read_dir(&self.rt, ".")? {
-            match entry {
-                Ok(entry) => {
-                    if entry.file_type()?.is_file() {
-                        names.push(String::from_str(alloc, entry.file_name())?)?;
-                    }
-                }
-                Err(e) if e.kind() == ErrorKind::InvalidFilename => {}
-                Err(e) => return Err(Fault::from(e)),
-            }
-        }
-        Ok(names)
+    pub(crate) fn names(&mut self, alloc: Global) -> Result<Vec<String>, Fault>
+        ensures all { S.shows → IfOk result (λ names. (entries : List (Option Name)) × (S.calls self.new.system ≡ Listing (Some entries) ∷ S.calls self.old.system) × (map string_bytes names.items ≡ files_of entries)) }
+        ensures sound { S.shows → StaysSound S.id (S.calls self.old.system) self.old.handles.open.items (S.calls self.new.system) self.new.handles.open.items }
+    {
+        let entries = self.system.list()?;
+        files(alloc, &mut self.system, entries)
     }
 
     pub(crate) fn read(
@@ -59,113 +59,204 @@ impl<R: Files + AllocGlobal + Clone + Drop> Folder<R> {
         offset: u64,
         into: &mut [u8],
     ) -> Result<Option<usize>, Fault>
-        ensures { IfOk result (λ r. IfSome r (λ count. count ≤ length into.new)) }
+        ensures bound { IfOk result (λ r. IfSome r (λ count. count ≤ length into.new)) }
+        ensures bytes { S.shows → IsSound S.id (S.calls self.old.system) self.old.handles.open.items
+            → IfOk result (λ r. IfSome r (λ count. IsOn name.now (λ file. Read file offset (Some (take count into.new))) (S.calls self.new.system))) }
+        ensures absent { S.shows → result ≡ Ok None → IsNewest (Looked name.now (Some Found.Nothing)) (S.calls self.new.system) }
+        ensures sound { S.shows → StaysSound S.id (S.calls self.old.system) self.old.handles.open.items (S.calls self.new.system) self.new.handles.open.items }
     {
-        match self.opened(name, false)? {
-            Some(at) => {
-                let file = &mut self.handles.open[at].file;
-                file.seek(SeekFrom::Start(offset))?;
-                Ok(Some(read_full(file, into)?))
-            }
-            None => Ok(None),
-        }
+        let Some(at) = self.opened(name, false)? else {
+            return Ok(None);
+        };
+        let file = &mut self.handles.open[at].file;
+        Ok(Some(self.system.read(file, offset, into)?))
     }
 
-    pub(crate) fn append(&mut self, name: &str, bytes: &[u8]) -> Result<(), Fault> {
-        match self.opened(name, true)? {
-            Some(at) => {
-                let file = &mut self.handles.open[at].file;
-                changed(write_whole(file, bytes))?;
-                changed(file.flush())
-            }
-            None => Err(Fault::Disk),
-        }
+    pub(crate) fn append(&mut self, name: &str, bytes: &[u8]) -> Result<(), Fault>
+        ensures bytes { S.shows → IsSound S.id (S.calls self.old.system) self.old.handles.open.items
+            → OnOk result (IsOn name.now (λ file. Wrote file bytes.now true) (S.calls self.new.system)) }
+        ensures sound { S.shows → StaysSound S.id (S.calls self.old.system) self.old.handles.open.items (S.calls self.new.system) self.new.handles.open.items }
+    {
+        let Some(at) = self.opened(name, true)? else {
+            return Err(no_such_file());
+        };
+        let handle = &mut self.handles.open[at];
+        handle.unsynced = true;
+        changed(self.system.append(&mut handle.file, bytes))
     }
 
     pub(crate) fn sync(&mut self, name: &str) -> Result<(), Fault>
-        ensures { IsTrue self.old.lost → IsErr result }
+        ensures lost { IsTrue self.old.lost → IsErr result }
+        ensures file { S.shows → IsSound S.id (S.calls self.old.system) self.old.handles.open.items
+            → OnOk result (IsOn name.now (λ file. SyncedFile file true) (S.calls self.new.system)) }
+        ensures sound { S.shows → StaysSound S.id (S.calls self.old.system) self.old.handles.open.items (S.calls self.new.system) self.new.handles.open.items }
     {
-        match self.opened(name, false)? {
-            Some(at) => {
-                let done = self.handles.open[at].file.sync_data();
-                synced(&mut self.lost, done)
-            }
-            None => Err(Fault::Disk),
-        }
+        let Some(at) = self.opened(name, false)? else {
+            return Err(no_such_file());
+        };
+        let handle = &mut self.handles.open[at];
+        let done = self.system.sync_file(&handle.file);
+        handle.unsynced = done.is_err();
+        synced(&mut self.lost, done)
     }
 
     // An empty file, in the place of an older one. Its length too is on the disk before the folder is.
     pub(crate) fn create(&mut self, name: &str) -> Result<(), Fault>
-        ensures { IsTrue self.old.lost → IsErr result }
+        ensures lost { IsTrue self.old.lost → IsErr result }
+        ensures made { S.shows → OnOk result (IsMade name.now (S.calls self.new.system)) }
+        ensures sound { S.shows → StaysSound S.id (S.calls self.old.system) self.old.handles.open.items (S.calls self.new.system) self.new.handles.open.items }
     {
+        let replaces = self.is_there(name)?;
         self.handles.close(name);
-        let file = changed(fs::create(&self.rt, name))?;
-        synced(&mut self.lost, file.sync_all())?;
+        let file = changed(self.system.make(name, replaces))?;
+        let done = self.system.sync_file(&file);
+        synced(&mut self.lost, done)?;
         self.sync_names()
     }
 
     pub(crate) fn rename(&mut self, from: &str, to: &str) -> Result<(), Fault>
-        ensures { IsTrue self.old.lost → IsErr result }
+        ensures lost { IsTrue self.old.lost → IsErr result }
+        ensures renamed { S.shows → OnOk result (IsOnDisk (Renamed from.now to.now true) (S.calls self.new.system)) }
+        ensures sound { S.shows → StaysSound S.id (S.calls self.old.system) self.old.handles.open.items (S.calls self.new.system) self.new.handles.open.items }
     {
+        if !self.is_there(from)? {
+            return Err(no_such_file());
+        }
+        let _replaces = self.is_there(to)?;
         self.handles.close(from);
         self.handles.close(to);
-        changed(fs::rename(&self.rt, from, to))?;
+        changed(self.system.rename(from, to))?;
         self.sync_names()
     }
 
     pub(crate) fn remove(&mut self, name: &str) -> Result<(), Fault>
-        ensures { IsTrue self.old.lost → IsErr result }
+        ensures lost { IsTrue self.old.lost → IsErr result }
+        ensures removed { S.shows → OnOk result (IsOnDisk (Removed name.now true) (S.calls self.new.system)) }
+        ensures sound { S.shows → StaysSound S.id (S.calls self.old.system) self.old.handles.open.items (S.calls self.new.system) self.new.handles.open.items }
     {
+        if !self.is_there(name)? {
+            return Err(no_such_file());
+        }
         self.handles.close(name);
-        changed(fs::remove_file(&self.rt, name))?;
+        changed(self.system.remove(name))?;
         self.sync_names()
+    }
+
+    // Whether a regular file stands under the name.
+    fn is_there(&mut self, name: &str) -> Result<bool, Fault>
+        ensures seen { S.shows → OnOk result (SawNoOther name.now (S.calls self.new.system)) }
+        ensures absent { S.shows → result ≡ Ok false → IsNewest (Looked name.now (Some Found.Nothing)) (S.calls self.new.system) }
+        ensures lost { self.new.lost ≡ self.old.lost }
+        ensures sound { S.shows → StaysSound S.id (S.calls self.old.system) self.old.handles.open.items (S.calls self.new.system) self.new.handles.open.items }
+    {
+        Ok(self.length(name)?.is_some())
     }
 
     // Puts the names on the disk.
     fn sync_names(&mut self) -> Result<(), Fault>
-        ensures { IsTrue self.old.lost → IsErr result }
+        ensures lost { IsTrue self.old.lost → IsErr result }
+        ensures done { S.shows → OnOk result (S.calls self.new.system ≡ SyncedFolder true ∷ S.calls self.old.system) }
+        ensures sound { S.shows → StaysSound S.id (S.calls self.old.system) self.old.handles.open.items (S.calls self.new.system) self.new.handles.open.items }
     {
-        match fs::open(&self.rt, ".") {
-            Ok(folder) => synced(&mut self.lost, folder.sync_all()),
-            Err(_) => Err(Fault::Disk),
-        }
+        let done = self.system.sync_folder();
+        synced(&mut self.lost, done)
     }
 
     // The place of the open file of this name, which is opened where it is not, or `None` where there is no such file.
     fn opened(&mut self, name: &str, appends: bool) -> Result<Option<usize>, Fault>
-        ensures place { IfOk result (λ place. IfSome place (λ at. at < length self.new.handles.open.items)) }
-        ensures for_good { IsTrue self.old.lost → IsTrue self.new.lost }
+        ensures place { IfOk result (λ place. IfSome place (IsPlaceOf name.now self.new.handles.open.items)) }
+        ensures absent { S.shows → result ≡ Ok None → IsNewest (Looked name.now (Some Found.Nothing)) (S.calls self.new.system) }
+        ensures lost { IsTrue self.old.lost → IsTrue self.new.lost }
+        ensures sound { S.shows → StaysSound S.id (S.calls self.old.system) self.old.handles.open.items (S.calls self.new.system) self.new.handles.open.items }
     {
-        if let Some(at) = self.handles.place(name) {
-            if !appends || self.handles.open[at].appends {
-                return Ok(Some(at));
-            }
-            self.handles.close(name);
+        if let Some(at) = self.usable(name, appends) {
+            return Ok(Some(at));
         }
+        self.make_room()?;
+        self.open_new(name, appends)
+    }
+
+    // The place of the file of this name, if it is open and can be used so. If it cannot, it is closed.
+    fn usable(&mut self, name: &str, appends: bool) -> Option<usize>
+        ensures place { IfSome result (IsPlaceOf name.now self.new.handles.open.items) }
+        ensures lost { self.new.lost ≡ self.old.lost }
+        ensures calls { self.new.system ≡ self.old.system }
+        ensures sound { StaysSound S.id (S.calls self.old.system) self.old.handles.open.items (S.calls self.new.system) self.new.handles.open.items }
+    {
+        let at = self.handles.place(name)?;
+        if !appends || self.handles.open[at].appends {
+            return Some(at);
+        }
+        self.handles.close(name);
+        None
+    }
+
+    // Opens the file of this name, and answers its place, or `None` where there is no such file.
+    fn open_new(&mut self, name: &str, appends: bool) -> Result<Option<usize>, Fault>
+        ensures place { IfOk result (λ place. IfSome place (IsPlaceOf name.now self.new.handles.open.items)) }
+        ensures absent { S.shows → result ≡ Ok None → IsNewest (Looked name.now (Some Found.Nothing)) (S.calls self.new.system) }
+        ensures lost { self.new.lost ≡ self.old.lost }
+        ensures sound { S.shows → StaysSound S.id (S.calls self.old.system) self.old.handles.open.items (S.calls self.new.system) self.new.handles.open.items }
+    {
+        let key = String::from_str(self.alloc, name)?;
+        if !self.is_there(name)? {
+            return Ok(None);
+        }
+        let file = self.system.open(name, appends)?;
+        Ok(Some(self.handles.keep(key, file, appends)?))
+    }
+
+    fn make_room(&mut self) -> Result<(), Fault>
+        ensures lost { IsTrue self.old.lost → IsTrue self.new.lost }
+        ensures sound { S.shows → StaysSound S.id (S.calls self.old.system) self.old.handles.open.items (S.calls self.new.system) self.new.handles.open.items }
+    {
         if self.handles.is_full() {
-            self.close_oldest()?;
+            return self.close_oldest();
         }
-        let key = String::from_str(self.rt.alloc(), name)?;
-        let mut how = OpenOptions::new();
-        how.read(true);
-        how.append(appends);
-        match how.open(&self.rt, name) {
-            Ok(file) => Ok(Some(self.handles.keep(key, file, appends)?)),
-            Err(e) if e.kind() == ErrorKind::NotFound => Ok(None),
-            Err(e) => Err(Fault::from(e)),
-        }
+        Ok(())
     }
 
     // Before a file is let go, what is still to be written of it is written, so that no failure to do so goes unseen.
     fn close_oldest(&mut self) -> Result<(), Fault>
-        ensures { IsTrue self.old.lost → IsTrue self.new.lost }
+        ensures lost { IsTrue self.old.lost → IsTrue self.new.lost }
+        ensures synced { S.shows → OnOk result (0 < length self.old.handles.open.items
+            → (d : _) → IsLetGo S.id (slice_index_or self.old.handles.open.items 0 d) (S.calls self.old.system) (S.calls self.new.system)) }
+        ensures sound { S.shows → StaysSound S.id (S.calls self.old.system) self.old.handles.open.items (S.calls self.new.system) self.new.handles.open.items }
     {
-        if let Some(oldest) = self.handles.take_oldest() {
-            if oldest.appends && oldest.file.sync_all().is_err() {
-                self.lost = true;
-                return Err(Fault::Disk);
+        match self.handles.take_oldest() {
+            Some(oldest) if oldest.unsynced => {
+                let done = self.system.sync_file(&oldest.file);
+                synced(&mut self.lost, done)
             }
+            _ => Ok(()),
         }
-        Ok(())
     }
+}
+
+// The names of the regular files among the entries.
+fn files<S: System + Drop>(
+    alloc: Global,
+    system: &mut S,
+    mut entries: S::Entries,
+) -> Result<Vec<String>, Fault>
+    ensures all { S.shows → IfOk result (λ names. map string_bytes names.items ≡ files_of (S.left entries)) }
+    ensures calls { S.shows → S.calls system.new ≡ S.calls system.old }
+{
+    let mut names = Vec::new(alloc);
+    'entries: for _entry in 0..u64::MAX {
+        match system.next(alloc, &mut entries)? {
+            Listed::File(name) => names.push(name)?,
+            Listed::Other => {}
+            Listed::End => return Ok(names),
+        }
+    }
+    Err(Fault::Memory)
+}
+
+fn no_such_file() -> Fault {
+    Fault::Disk(io::Error::new(ErrorKind::NotFound, "no such file"))
+}
+
+fn not_regular() -> Fault {
+    Fault::Disk(io::Error::new(ErrorKind::Other, "not a regular file"))
 }

@@ -1,9 +1,9 @@
-// A reader, as standard input, as a source. It shows no content.
+//! A reader, as standard input, as a source. It shows no content.
 ghost use Rattle.std.specs.Prelude.{◌≡◌, ℕ, []};
 
 use crate::moving::read_some;
 use bl_site::{Source, SourceErr};
-use std::io::Read;
+use std::io::{self, Read};
 
 /// Standard input as a source. It shows no content.
 #[derive(Drop)]
@@ -11,6 +11,7 @@ pub struct HostSource<R: Read + Drop> {
     reader: R,
     taken: u64,
     faults: u64,
+    last: Option<io::Error>,
 }
 
 impl<R: Read + Drop> HostSource<R> {
@@ -23,7 +24,13 @@ impl<R: Read + Drop> HostSource<R> {
             reader,
             taken: 0,
             faults: 0,
+            last: None,
         }
+    }
+
+    /// Why the last read that failed did, if one has.
+    pub fn last_failure(&self) -> Option<io::Error> {
+        self.last
     }
 }
 
@@ -42,7 +49,8 @@ impl<R: Read + Drop> Source for HostSource<R> {
                 self.taken = self.taken.saturating_add(count as u64);
                 Ok(count)
             }
-            Err(_) => {
+            Err(error) => {
+                self.last = Some(error);
                 self.faults = self.faults.saturating_add(1);
                 Err(SourceErr::Failed)
             }

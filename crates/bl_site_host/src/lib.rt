@@ -4,15 +4,23 @@
 //! content. The loops that move bytes are generic over a reader or a writer, and say which bytes they moved.
 #![tactic(auto)]
 
+mod failure;
 mod faults;
 mod folder;
+mod guard;
 mod handles;
+mod host;
 mod input;
 mod moving;
 mod site;
+mod system;
 
+pub use failure::Failure;
+pub use guard::{FolderLock, LockErr, Streams};
 pub use input::HostSource;
 pub use site::HostSite;
 
+#[cfg(test)]
+mod recorder;
 #[cfg(test)]
 mod tests;

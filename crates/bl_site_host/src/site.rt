@@ -1,9 +1,11 @@
-// The current folder and standard output as a site.
+//! The current folder and standard output as a site.
 ghost use Rattle.std.specs.Prelude.{◌≡◌, [], None, OnOk};
 ghost use Rattle.std.specs.Io.KnownBytes.{Appends};
 
+use crate::failure::{Asked, Failure, error_in, note};
 use crate::faults::counted;
 use crate::folder::Folder;
+use crate::host::Host;
 use crate::moving::write_whole;
 use bl_site::{Site, SiteErr};
 use std::alloc::Global;
@@ -12,15 +14,17 @@ use std::rt::Files;
 
 /// The current folder with standard output as a site. It shows no content.
 ///
-/// Its files are the regular files whose names are UTF-8. A file in use stays open between calls, up to 64 of them. A name
-/// call is answered `Ok` only when the folder too is on the disk. Once the system has failed to put a file or the folder on
+/// Its files are the regular files whose names are UTF-8. Where a link, a pipe, a folder or a device has the name that is asked for, the
+/// call fails, and the thing is neither opened nor followed nor emptied. A file in use stays open between calls, up to 64 of them. A
+/// name call is answered `Ok` only when the folder too is on the disk. Once the system has failed to put a file or the folder on
 /// the disk, no later `sync` or name call is answered `Ok`: it may have dropped bytes that it still shows.
 #[derive(Drop)]
 pub struct HostSite<R: Files + Print + AllocGlobal + Clone + Drop> {
-    folder: Folder<R>,
+    folder: Folder<Host<R>>,
     disk_faults: u64,
     tell_faults: u64,
     changes: u64,
+    last: Option<Failure>,
 }
 
 impl<R: Files + Print + AllocGlobal + Clone + Drop> HostSite<R> {
@@ -31,11 +35,21 @@ impl<R: Files + Print + AllocGlobal + Clone + Drop> HostSite<R> {
         ensures changes { ⟦<HostSite<R> as Site>⟧.changes result ≡ 0 }
     {
         HostSite {
-            folder: Folder::new(rt),
+            folder: Folder::new(rt.alloc(), Host::new(rt)),
             disk_faults: 0,
             tell_faults: 0,
             changes: 0,
+            last: None,
         }
+    }
+
+    /// The last call that failed, or `None` where none has but for want of memory.
+    pub fn last_failure(&self) -> Option<&Failure> {
+        self.last.as_ref()
+    }
+
+    fn alloc(&self) -> Global {
+        self.folder.system.rt.alloc()
     }
 }
 
@@ -81,7 +95,15 @@ impl<R: Files + Print + AllocGlobal + Clone + Drop> Site for HostSite<R> {
     ghost only_now = { λ shown. absurd shown };
 
     fn len(&mut self, name: &str) -> Result<Option<u64>, SiteErr> {
-        counted(&mut self.disk_faults, self.folder.length(name))
+        let done = self.folder.length(name);
+        note(
+            self.alloc(),
+            &mut self.last,
+            Asked::Length,
+            name,
+            error_in(&done),
+        );
+        counted(&mut self.disk_faults, done)
     }
 
     fn read_at(
@@ -90,40 +112,97 @@ impl<R: Files + Print + AllocGlobal + Clone + Drop> Site for HostSite<R> {
         offset: u64,
         into: &mut [u8],
     ) -> Result<Option<usize>, SiteErr> {
-        counted(&mut self.disk_faults, self.folder.read(name, offset, into))
+        let done = self.folder.read(name, offset, into);
+        note(
+            self.alloc(),
+            &mut self.last,
+            Asked::Read,
+            name,
+            error_in(&done),
+        );
+        counted(&mut self.disk_faults, done)
     }
 
     fn list(&mut self, alloc: Global) -> Result<Vec<String>, SiteErr> {
-        counted(&mut self.disk_faults, self.folder.names(alloc))
+        let done = self.folder.names(alloc);
+        note(
+            self.alloc(),
+            &mut self.last,
+            Asked::List,
+            "",
+            error_in(&done),
+        );
+        counted(&mut self.disk_faults, done)
     }
 
     fn create(&mut self, name: &str) -> Result<(), SiteErr> {
         self.changes = self.changes.saturating_add(1);
-        counted(&mut self.disk_faults, self.folder.create(name))
+        let done = self.folder.create(name);
+        note(
+            self.alloc(),
+            &mut self.last,
+            Asked::Create,
+            name,
+            error_in(&done),
+        );
+        counted(&mut self.disk_faults, done)
     }
 
     fn append(&mut self, name: &str, bytes: &[u8]) -> Result<(), SiteErr> {
         self.changes = self.changes.saturating_add(1);
-        counted(&mut self.disk_faults, self.folder.append(name, bytes))
+        let done = self.folder.append(name, bytes);
+        note(
+            self.alloc(),
+            &mut self.last,
+            Asked::Append,
+            name,
+            error_in(&done),
+        );
+        counted(&mut self.disk_faults, done)
     }
 
     fn sync(&mut self, name: &str) -> Result<(), SiteErr> {
         self.changes = self.changes.saturating_add(1);
-        counted(&mut self.disk_faults, self.folder.sync(name))
+        let done = self.folder.sync(name);
+        note(
+            self.alloc(),
+            &mut self.last,
+            Asked::Sync,
+            name,
+            error_in(&done),
+        );
+        counted(&mut self.disk_faults, done)
     }
 
     fn rename(&mut self, from: &str, to: &str) -> Result<(), SiteErr> {
         self.changes = self.changes.saturating_add(1);
-        counted(&mut self.disk_faults, self.folder.rename(from, to))
+        let done = self.folder.rename(from, to);
+        note(
+            self.alloc(),
+            &mut self.last,
+            Asked::Rename,
+            from,
+            error_in(&done),
+        );
+        counted(&mut self.disk_faults, done)
     }
 
     fn remove(&mut self, name: &str) -> Result<(), SiteErr> {
         self.changes = self.changes.saturating_add(1);
-        counted(&mut self.disk_faults, self.folder.remove(name))
+        let done = self.folder.remove(name);
+        note(
+            self.alloc(),
+            &mut self.last,
+            Asked::Remove,
+            name,
+            error_in(&done),
+        );
+        counted(&mut self.disk_faults, done)
     }
 
     fn tell(&mut self, bytes: &[u8]) -> Result<(), SiteErr> {
-        if told(&mut io::writer(&self.folder.rt), bytes).is_err() {
+        if let Err(error) = told(&mut io::writer(&self.folder.system.rt), bytes) {
+            note(self.alloc(), &mut self.last, Asked::Tell, "", Some(error));
             self.tell_faults = self.tell_faults.saturating_add(1);
             return Err(SiteErr::TellFailed);
         }

@@ -1,4 +1,4 @@
-// The adapters on the real folder, and writers and readers that are short or fail.
+//! The adapters on the real folder, and writers and readers that are short or fail.
 use crate::faults::{Fault, changed, counted, synced};
 use crate::moving::{read_full, write_whole};
 use crate::{HostSite, HostSource};
@@ -11,6 +11,13 @@ fn failed(error: SiteErr) -> Fail {
         SiteErr::DiskFailed => Fail::from("disk"),
         SiteErr::TellFailed => Fail::from("tell"),
         SiteErr::OutOfMemory => Fail::from("memory"),
+    }
+}
+
+fn kind_of(done: Result<(), Fault>) -> Option<ErrorKind> {
+    match done {
+        Ok(()) | Err(Fault::Memory) => None,
+        Err(Fault::Disk(error)) => Some(error.kind()),
     }
 }
 
@@ -99,10 +106,13 @@ fn short_reads_go_on(rt: HostRuntime) -> Result<(), Fail> {
 #[test]
 fn a_failed_sync_is_for_good(rt: HostRuntime) -> Result<(), Fail> {
     let mut lost = false;
-    assert_eq!(rt; synced(&mut lost, Ok(())), Ok(()));
+    assert!(rt; synced(&mut lost, Ok(())).is_ok());
     let failure = Err(io::Error::from(ErrorKind::StorageFull));
-    assert_eq!(rt; synced(&mut lost, failure), Err(Fault::Disk));
-    assert_eq!(rt; synced(&mut lost, Ok(())), Err(Fault::Disk));
+    assert_eq!(rt;
+        kind_of(synced(&mut lost, failure)),
+        Some(ErrorKind::StorageFull)
+    );
+    assert_eq!(rt; kind_of(synced(&mut lost, Ok(()))), Some(ErrorKind::Other));
     Ok(())
 }
 

@@ -12,11 +12,14 @@ use Rattle.bl_names.specs.Names.{IsNumber, NamesOne}
 use Rattle.bl_entry.specs.Batches.{Batch}
 use Rattle.bl_entry.specs.Revisions.{Map}
 use Rattle.bl_wal.specs.LogFile.{LogFile, log_name, new_log}
+use Rattle.bl_records.proofs.HeldLemmas.{within_of}
+use Rattle.bl_wal.specs.Held.{record_of}
 use Rattle.bl_store.specs.Folders.{IsNext, Stands}
 use Rattle.bl_store.specs.Laws.{BatchesAreOnce, CutsStand, StoresStand}
 use Rattle.bl_store.specs.Stored.{Stored, IsSynced, StandsOn, Makes}
 use Rattle.bl_store.specs.Cuts.{LeavesFound, BeforeBarrier, LeavesFirst, AreReadAsWritten}
-use Rattle.bl_store.proofs.CarryLemmas.{WasRead, opens}
+use Rattle.bl_store.specs.Replaying.{WasRead}
+use Rattle.bl_store.proofs.CarryLemmas.{opens}
 use Rattle.bl_store.proofs.CutLemmas.{CountsNow, at_end, found_then, cut_found, reads_so}
 use Rattle.bl_store.proofs.FolderLemmas.{same_name}
 
@@ -154,5 +157,5 @@ module _ {D : Type 0} (clock : D → ℕ) (left_since : D → ℕ → Cut → Ty
       let opened = opens law (folder_of (disk old)) (disk mid) leaves.disk store greatest number read is less made refl in
       let once = are_once (folder_of (disk old)) opened.batches (older ++ own) last_read last opened.had (stores log older own synced last (disk old) whole on).have in
       subst (λ (t : List ℕ). T t c) same
-      (all_there older own opened.batches synced (told mid) c once.0 on.holds.within (stand store.log opened.batches [] 0 last_read leaves.disk (told mid) c opened.carries.on leaves.is_cut)))
+      (all_there older own opened.batches synced (told mid) c once.0 (within_of record_of own synced on.holds.within) (stand store.log opened.batches [] 0 last_read leaves.disk (told mid) c opened.carries.on leaves.is_cut)))
       leaves.possible)

@@ -1,18 +1,13 @@
 -- What a cut finds of an opening's next log.
-use Rattle.std.proofs.Common.{◌≡◌, ℕ, List, ◌++◌, Option, None, Some, IsSome, refl, subst}
-use Rattle.std.specs.Option.{option_map}
+use Rattle.std.proofs.Common.{◌≡◌, ℕ, List, ◌++◌, Option, IsSome, subst}
 use Rattle.bl_site.specs.Disk.{File, Disk, Cut, IsCut, MayLeave, folder_of}
 use Rattle.bl_site.specs.Calls.{Creates, MayDuring, Elapses, LeavesOnly}
 use Rattle.bl_site.proofs.Moments.{started, joins, widened, certain_call, name_call, cut_of_only}
 use Rattle.bl_wal.specs.LogFile.{log_name}
 use Rattle.bl_store.specs.Cuts.{FindsNoNewFile, FindsOpened}
 use Rattle.bl_store.specs.Stored.{HasNextLog, IsOpened, MakesNoFile}
-use Rattle.bl_store.proofs.FolderLemmas.{there_reads}
+use Rattle.bl_store.proofs.FolderLemmas.{there_reads, was_some}
 use Rattle.bl_store.proofs.OtherLemmas.{no_next}
-
-was_some : {A B : Type 0} (f : A → B) (o : Option A) → IsSome (option_map f o) → IsSome o
-was_some f None some = absurd (cc some)
-was_some f (Some a) some = refl
 
 -- the names of what was written are those of the disk
 pub no_new_in : (disk : Disk) (told : List ℕ) (c : Cut) → IsCut disk told c → FindsNoNewFile disk c

@@ -7,8 +7,8 @@ use Rattle.std.specs.Prelude.{max}
 use Rattle.std.specs.Option.{option_map}
 use Rattle.bl_site.specs.Disk.{Name, File, Folder, Disk, folder_of}
 use Rattle.bl_site.specs.Calls.{Creates}
-use Rattle.bl_log.specs.Layout.{written}
 use Rattle.bl_names.specs.Names.{IsNumber, NamesOne}
+use Rattle.bl_records.proofs.HeldLemmas.{created_holds}
 use Rattle.bl_entry.specs.Batches.{Batch}
 use Rattle.bl_entry.specs.Records.{batches_of}
 use Rattle.bl_entry.specs.Revisions.{Map, after_operations}
@@ -20,7 +20,7 @@ use Rattle.bl_wal.specs.declared.error.WalErr.TheVariants as wal
 use Rattle.bl_wal.specs.Laws.{NextBatchIsRead}
 use Rattle.bl_store.specs.Logs.{bytes_in, after_batches}
 use Rattle.bl_store.specs.Folders.{HasOnlyLogs, IsOther, IsNext}
-use Rattle.bl_store.specs.Replaying.{HasAll}
+use Rattle.bl_store.specs.Replaying.{HasAll, WasRead}
 use Rattle.bl_store.specs.Stored.{Stored, next_batch, IsSynced, StandsOn, Carries, Makes, Opens, IsOpened}
 use Rattle.bl_store.proofs.BatchLemmas.{after_more, after_one}
 use Rattle.bl_store.proofs.FolderLemmas.{not_there, makes}
@@ -74,27 +74,6 @@ pub more_follow : NextBatchIsRead → (own : List Batch) (between last : ℕ) (b
     → batches_of (map record_of (own ++ b ∷ [])) between ≡ Some (own ++ b ∷ [], last + length b.operations)
 more_follow law own between last b follow read first = ap (λ r. batches_of r between) (map-append record_of own (b ∷ [])) ∙ law (map record_of own) between last own b follow read first
 
--- a new log holds no batch
-pub created_holds : (number : ℕ) (old new : Disk) → Creates (log_name number) old new → HoldsBatches new (new_log number) [] 0
-unfolding written
-created_holds number old new made = record {
-  file = record { read = []; front = []; handed = [] };
-  there = made.at;
-  within = omega arith;
-  front = refl;
-  all = refl;
-  reads = λ whole. refl;
-  place = λ whole. refl;
-}
-
--- the logs of a folder were synced and replayed
-pub record WasRead (folder : Folder) (disk : Disk) (now : Map) (last greatest : ℕ) : Type 0 where
-  pub only : HasOnlyLogs folder
-  pub same : folder_of disk ≡ folder
-  pub bound : greatest < 10 ^ 15
-  pub all : HasAll folder now last greatest
-  pub synced : (k : ℕ) → IsNumber k → IsSynced (disk (log_name k))
-
 -- the number of the next log
 pub is_next : (folder : Folder) (now : Map) (last greatest number : ℕ) → HasAll folder now last greatest → number ≡ max (greatest + 1) 2 → IsNext folder number
 is_next folder now last greatest number all is = record {
@@ -115,11 +94,15 @@ is_next folder now last greatest number all is = record {
   ];
 }
 
+pub within_bound : (folder : Folder) (now : Map) (last greatest : ℕ) → HasAll folder now last greatest → greatest < 10 ^ 15
+within_bound folder now last greatest all = elim all.there [ inl zero ↦ omega (arith, zero) | inr there ↦ there.0.1 ]
+
 -- A store is opened: the next log was made on a disk whose logs were synced and replayed.
 pub opens : NamesOne → (folder : Folder) (before after : Disk) (store : Stored) (greatest number : ℕ) → WasRead folder before store.now store.last greatest
     → number ≡ max (greatest + 1) 2 → number < 10 ^ 15 → Creates (log_name number) before after → store.log ≡ new_log number → Opens folder store after
 opens law folder before after store greatest number read is less made log =
     let all = read.all in
+    let bound : greatest < 10 ^ 15 = within_bound folder store.now store.last greatest all in
     let is_number : IsNumber number = (omega (arith, is), less) in
     let differ : (k : ℕ) → IsNumber k → (k ≡ number → ⊥) → after (log_name k) ≡ before (log_name k) = λ k ik ne. made.others (log_name k) (other_name law k number ik is_number ne) in
     let at : (name : Name) → folder_of before name ≡ folder name = λ name. ap (λ f. f name) read.same in
@@ -137,14 +120,14 @@ opens law folder before after store greatest number read is less made log =
           ap (λ r. batches_of r 0) (up_to_same (number - 1) (folder_of after) folder
           (λ k some le. ap bytes_in (same_reads before after (log_name k) (differ k (some, omega (arith, le, less)) (λ e. omega (arith, le, e, some))) ∙ at (log_name k)))
           ∙ up_to_empty greatest (number - 1) folder (omega (arith, is)) (λ k lt le. ap bytes_in (all.above k lt (omega (arith, le, less))))) ∙ all.are;
-      holds = created_holds number before after made;
+      holds = created_holds (log_name number) before after made;
       follow = none_behind store.last;
     } in
     record {
       whole = ap (λ (l : LogFile). l.failed) log;
       batches = all.batches;
       only = read.only;
-      had = record { top = greatest; is_number = read.bound; no_more = λ k lt k_less. ap bytes_in (all.above k lt k_less); are = all.are };
+      had = record { top = greatest; is_number = bound; no_more = λ k lt k_less. ap bytes_in (all.above k lt k_less); are = all.are };
       carries = record { on = subst P (sym log) on; now_is = all.now_is ∙ ap (λ bs. after_batches bs empty) (sym (append-nil all.batches)) };
       next = let N : ℕ → Type 0 = λ n. IsNext folder n in subst N (sym (ap (λ (l : LogFile). l.number) log)) (is_next folder store.now store.last greatest number all is);
       made = let N : ℕ → Type 0 = λ n. Makes (log_name n) folder (folder_of after) in

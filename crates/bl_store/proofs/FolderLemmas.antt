@@ -8,7 +8,7 @@ use Rattle.std.specs.List.{AllByRecursion}
 use Rattle.std.specs.declared.cmp.Ordering.TheVariants.{Less, Equal, Greater}
 use Rattle.bl_code.specs.Order.{bytes_cmp}
 use Rattle.bl_site.specs.Disk.{Name, File, Folder, Disk, folder_of}
-use Rattle.bl_site.specs.Calls.{Syncs, Creates, KeepsDisk}
+use Rattle.bl_site.specs.Calls.{Syncs, Creates}
 use Rattle.bl_names.specs.Names.{IsNumber}
 use Rattle.bl_wal.specs.LogFile.{log_name}
 use Rattle.bl_store.specs.Listing.{is_in, AreLogsAbove}
@@ -47,9 +47,9 @@ sync_syncs name other old new s is = elim (same_name other name) [
   | inr ne ↦ elim is [ inl same ↦ absurd (ne same) | inr was ↦ subst IsSynced (sym (s.puts.others other ne)) was ]
 ]
 
-pub reads_there : (o : Option File) → IsSome (option_map (λ (file : File). file.read) o) → IsSome o
-reads_there None some = absurd (cc some)
-reads_there (Some file) some = refl
+pub was_some : {A B : Type 0} (f : A → B) (o : Option A) → IsSome (option_map f o) → IsSome o
+was_some f None some = absurd (cc some)
+was_some f (Some a) some = refl
 
 pub there_reads : (o : Option File) → IsSome o → IsSome (option_map (λ (file : File). file.read) o)
 there_reads None some = absurd (cc some)
@@ -94,15 +94,3 @@ makes name old new c = record {
   made = ap (option_map (λ (file : File). file.read)) c.at;
   others = λ other ne. ap (option_map (λ (file : File). file.read)) (c.others other ne);
 }
-
--- what stays from call to call
-module _ {D : Type 0} {disk : D → Disk} {may_be : D → Disk → Type 0} {certain : D → Type 0} where
-  pub keeps_then : (a b c : D) → KeepsDisk disk may_be certain a b → KeepsDisk disk may_be certain b c → KeepsDisk disk may_be certain a c
-  keeps_then a b c first second = record {
-    same = second.same ∙ first.same;
-    possible = λ d may. first.possible d (second.possible d may);
-    certain_stays = λ sure. second.certain_stays (first.certain_stays sure);
-  }
-
-  pub keeps_same : (a : D) → KeepsDisk disk may_be certain a a
-  keeps_same a = record { same = refl; possible = λ d may. may; certain_stays = λ sure. sure }

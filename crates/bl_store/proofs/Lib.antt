@@ -13,6 +13,6 @@ mod BarrierLemmas
 mod OpenLemmas
 mod OperationLemmas
 mod ReplayLemmas
-mod OnOk
+mod QuietLemmas
 pub mod OtherLemmas
 pub mod BehindLemmas

@@ -7,10 +7,10 @@ use Rattle.std.specs.Option.{option_map}
 use Rattle.std.specs.Ordering.{is_lt, nat_cmp}
 use Rattle.std.specs.Cmp.{tied_itself}
 use Rattle.std.specs.Cmp.Lexicographic.{nat_list_cmp_total}
-use Rattle.std.specs.declared.cmp.Ordering.{Ordering}
 use Rattle.std.specs.BTreeMap.{is_at}
 use Rattle.std.specs.declared.cmp.Ordering.TheVariants.{Less, Equal, Greater}
 use Rattle.bl_code.specs.Order.{bytes_cmp, bytes_lt}
+use Rattle.bl_code.proofs.Basics.{less_is}
 use Rattle.bl_site.specs.Disk.{Name, Folder}
 use Rattle.bl_names.specs.declared.name.FileName.{FileName}
 use Rattle.bl_names.specs.declared.name.FileName.TheVariants.{Current, Manifest, Log, Table, Blob, Temp}
@@ -82,14 +82,9 @@ passed i names name (Some m) at not least = record {
 irreflexive : (a : List ℕ) → bytes_lt a a ≡ false
 irreflexive a = ap is_lt (tied_itself nat_list_cmp_total a)
 
-is_less : (o : Ordering) → is_lt o ≡ true → o ≡ Less
-is_less Less t = refl
-is_less Equal t = cc t
-is_less Greater t = cc t
-
 less_then : (a b c : List ℕ) → bytes_lt a b ≡ true → bytes_lt c b ≡ false → bytes_lt c a ≡ false
 less_then a b c t f = elim (bytes_cmp c a) as (λ o. bytes_cmp c a ≡ o → is_lt o ≡ false) [
-  | Less ↦ λ e. let less : bytes_lt c b ≡ true = ap is_lt (nat_list_cmp_total.trans c a b e (is_less (bytes_cmp a b) t)) in cc (less, f)
+  | Less ↦ λ e. let less : bytes_lt c b ≡ true = ap is_lt (nat_list_cmp_total.trans c a b e (less_is (bytes_cmp a b) t)) in cc (less, f)
   | Equal ↦ λ e. refl
   | Greater ↦ λ e. refl
 ] refl
@@ -189,10 +184,18 @@ module _ {X S : Type 0} (now : X → S) (f : S → Name) where
       → First i names (option_map (λ y. f (now y)) first) → First (i + 1) names (option_map (λ y. f (now y)) first)
   one_passed i names x first at not so_far = passed i names (f x) (option_map (λ y. f (now y)) first) at not so_far
 
-  pub all_passed : (i n : ℕ) (names : List Name) (first : Option X) → i ≡ n → First i names (option_map (λ y. f (now y)) first)
-      → MatchOption first ((name : Name) → IsWithin n names name → IsOther name → ⊥) (λ m. IsLeastOther n names (f (now m)))
-  all_passed i n names None same none = let P : ℕ → Type 0 = λ k. (name : Name) → IsWithin k names name → IsOther name → ⊥ in subst P same none
-  all_passed i n names (Some m) same least = let P : ℕ → Type 0 = λ k. IsLeastOther k names (f (now m)) in subst P same least
+  pub none_passed : (i n : ℕ) (names : List Name) (first : Option X) → i ≡ n → first ≡ None → First i names (option_map (λ y. f (now y)) first)
+      → (name : Name) → IsWithin n names name → IsOther name → ⊥
+  none_passed i n names first same is so_far =
+      let P : Option X → Type 0 = λ o. First i names (option_map (λ y. f (now y)) o) in
+      let Q : ℕ → Type 0 = λ k. (name : Name) → IsWithin k names name → IsOther name → ⊥ in
+      subst Q same (subst P is so_far)
+
+  pub least_passed : (i n : ℕ) (names : List Name) (first : Option X) (m : X) → i ≡ n → first ≡ Some m → First i names (option_map (λ y. f (now y)) first) → IsLeastOther n names (f (now m))
+  least_passed i n names first m same is so_far =
+      let P : Option X → Type 0 = λ o. First i names (option_map (λ y. f (now y)) o) in
+      let Q : ℕ → Type 0 = λ k. IsLeastOther k names (f (now m)) in
+      subst Q same (subst P is so_far)
 
 pub number_next : NamesOne → (i : ℕ) (names : List Name) (name : Name) (keys next : List ℕ) → NameAt i names name → TakesName name keys next → AreLogNumbers i names keys → AreLogNumbers (i + 1) names next
 number_next law i names name keys next at takes logs = elim takes [

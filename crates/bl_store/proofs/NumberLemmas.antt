@@ -8,20 +8,15 @@ use Rattle.std.specs.Cmp.{ranked}
 use Rattle.std.specs.declared.cmp.Ordering.{Ordering}
 use Rattle.std.specs.declared.cmp.Ordering.TheVariants.{Less, Equal, Greater}
 use Rattle.std.specs.BTreeMap.{is_at}
+use Rattle.bl_code.proofs.Basics.{nat_cmp_less, nat_cmp_equal}
 use Rattle.bl_site.specs.Disk.{Name, Folder}
 use Rattle.bl_names.specs.Names.{IsNumber}
 use Rattle.bl_wal.specs.LogFile.{log_name}
 use Rattle.bl_store.specs.Listing.{IsWithin, is_in, AreLogNumbers, AreLogsAbove}
 
-nat_less : (a b : ℕ) → nat_cmp a b ≡ Less → a < b
-nat_less a b e = ranked a b Less (sym e)
-
-nat_same : (a b : ℕ) → nat_cmp a b ≡ Equal → a ≡ b
-nat_same a b e = ranked a b Equal (sym e)
-
 pub itself : (n : ℕ) → is_at (nat_cmp n) n ≡ true
 itself n = elim (nat_cmp n n) as (λ o. nat_cmp n n ≡ o → is_eq o ≡ true) [
-  | Less ↦ λ e. absurd (omega (arith, nat_less n n e))
+  | Less ↦ λ e. absurd (omega (arith, nat_cmp_less n n e))
   | Equal ↦ λ e. refl
   | Greater ↦ λ e. absurd (omega (arith, ranked n n Greater (sym e)))
 ] refl
@@ -29,20 +24,20 @@ itself n = elim (nat_cmp n n) as (λ o. nat_cmp n n ≡ o → is_eq o ≡ true) 
 other_number : (n k : ℕ) → k < n → is_at (nat_cmp n) k ≡ false
 other_number n k lt = elim (nat_cmp n k) as (λ o. nat_cmp n k ≡ o → is_eq o ≡ false) [
   | Less ↦ λ e. refl
-  | Equal ↦ λ e. absurd (omega (arith, lt, nat_same n k e))
+  | Equal ↦ λ e. absurd (omega (arith, lt, nat_cmp_equal n k e))
   | Greater ↦ λ e. refl
 ] refl
 
 same_of : (o : Ordering) (n k : ℕ) → nat_cmp n k ≡ o → is_eq o ≡ true → n ≡ k
 same_of Less n k e t = cc t
-same_of Equal n k e t = nat_same n k e
+same_of Equal n k e t = nat_cmp_equal n k e
 same_of Greater n k e t = cc t
 
 -- a number is this one, or compares as another
 pub same_number : (n q : ℕ) → (n ≡ q) ⊎ (is_at (nat_cmp n) q ≡ false)
 same_number n q = elim (nat_cmp n q) as (λ o. nat_cmp n q ≡ o → (n ≡ q) ⊎ (is_eq o ≡ false)) [
   | Less ↦ λ e. inr refl
-  | Equal ↦ λ e. inl (nat_same n q e)
+  | Equal ↦ λ e. inl (nat_cmp_equal n q e)
   | Greater ↦ λ e. inr refl
 ] refl
 
@@ -86,7 +81,7 @@ sorted_rest k keys s = s
 raised : (k from : ℕ) (folder : Folder) (keys : List ℕ) → AllByRecursion (λ n. nat_cmp k n ≡ Less) keys → AllByRecursion (λ n. (from < n) × IsNumber n × IsSome (folder (log_name n))) keys
     → AllByRecursion (λ n. (k < n) × IsNumber n × IsSome (folder (log_name n))) keys
 raised k from folder [] less each = tt
-raised k from folder (n ∷ keys) less each = ((nat_less k n less.0, each.0.1, each.0.2), raised k from folder keys less.1 each.1)
+raised k from folder (n ∷ keys) less each = ((nat_cmp_less k n less.0, each.0.1, each.0.2), raised k from folder keys less.1 each.1)
 
 -- the first of them is passed
 pub passes : (from k : ℕ) (keys : List ℕ) (folder : Folder) → AreLogsAbove from (k ∷ keys) folder → AreLogsAbove k keys folder
@@ -110,13 +105,13 @@ below_least n keys k lt less = no_such n (k ∷ keys) (lt, later keys less)
         not_at : (m : ℕ) → n < m → is_at (nat_cmp n) m ≡ false
         not_at m lt = elim (nat_cmp n m) as (λ o. nat_cmp n m ≡ o → is_eq o ≡ false) [
           | Less ↦ λ e. refl
-          | Equal ↦ λ e. absurd (omega (arith, lt, nat_same n m e))
+          | Equal ↦ λ e. absurd (omega (arith, lt, nat_cmp_equal n m e))
           | Greater ↦ λ e. refl
         ] refl
 
     later : (ms : List ℕ) → AllByRecursion (λ m. nat_cmp k m ≡ Less) ms → AllByRecursion (λ m. n < m) ms
     later [] h = tt
-    later (m ∷ ms) h = (omega (arith, lt, nat_less k m h.0), later ms h.1)
+    later (m ∷ ms) h = (omega (arith, lt, nat_cmp_less k m h.0), later ms h.1)
 
 absent : (folder : Folder) (n : ℕ) → (IsSome (folder (log_name n)) → ⊥) → folder (log_name n) ≡ None
 absent folder n none = elim (folder (log_name n)) as (λ o. (IsSome o → ⊥) → o ≡ None) [ None ↦ λ h. refl | Some bytes ↦ λ h. absurd (h refl) ] none

@@ -1,21 +1,17 @@
 -- What an opening found.
-use Rattle.std.proofs.Common.{◌≡◌, ◌↔◌, ℕ, ◌+◌, ◌-◌, ◌^◌, ◌<◌, List, length, map, IsSome, Contains, All, sym, ap, subst, arith, ◌⊎◌, inl, inr}
+use Rattle.std.proofs.Common.{◌≡◌, ◌↔◌, ℕ, ◌+◌, ◌-◌, ◌^◌, ◌<◌, List, length, map, IsSome, Contains, sym, ap, subst, arith, ◌⊎◌, inl, inr}
 use Rattle.std.proofs.lemmas.Bool.{cases_lt}
 use Rattle.std.specs.Prelude.{max}
 use Rattle.std.proofs.lemmas.List.{length-map}
-use Rattle.std.specs.Ordering.{nat_cmp}
-use Rattle.std.specs.List.Sorted.{IsStrictlySortedBy}
-use Rattle.bl_site.specs.Disk.{Name, Folder, Disk, folder_of}
-use Rattle.bl_names.specs.Names.{IsNumber}
+use Rattle.bl_site.specs.Disk.{Name, File, Folder, Disk, folder_of}
 use Rattle.bl_entry.specs.Revisions.{Map}
 use Rattle.bl_wal.specs.LogFile.{log_name}
 use Rattle.bl_wal.specs.Held.{Batches}
 use Rattle.bl_store.specs.Logs.{bytes_in}
 use Rattle.bl_store.specs.Folders.{HasOnlyLogs, Stands}
-use Rattle.bl_store.specs.Listing.{IsWithin, AreLogNumbers, AreLogsAbove}
+use Rattle.bl_store.specs.Listing.{IsWithin}
 use Rattle.bl_store.specs.Replaying.{HasAll}
-use Rattle.bl_store.proofs.FolderLemmas.{there_reads, reads_there}
-use Rattle.bl_store.proofs.NumberLemmas.{begins, numbers_of}
+use Rattle.bl_store.proofs.FolderLemmas.{there_reads, was_some}
 
 -- the names listed are those that are there
 pub listed : {X : Type 0} (f : X → Name) (disk : Disk) (items names : List X) → names ≡ items → ((name : Name) → Contains (map f items) name ↔ IsSome (disk name))
@@ -24,19 +20,8 @@ listed {X = X} f disk items names same value =
     let P : List X → Type 0 = λ ns. (name : Name) → IsWithin (length ns) (map f ns) name ↔ IsSome (folder_of disk name) in
     subst P (sym same) (λ name. (
       λ w. there_reads (disk name) ((value name).0 (w.0, omega (arith, w.1, length-map items f), w.2)),
-      λ some. let c = (value name).1 (reads_there (disk name) some) in (c.0, omega (arith, c.1, length-map items f), c.2),
+      λ some. let c = (value name).1 (was_some (λ (file : File). file.read) (disk name) some) in (c.0, omega (arith, c.1, length-map items f), c.2),
     ))
-
--- the numbers of its logs
-pub numbers_found : (names : List Name) (count : ℕ) (keys numbers : List ℕ) → numbers ≡ keys → AreLogNumbers count names keys → All IsNumber numbers
-numbers_found names count keys numbers same logs = let P : List ℕ → Type 0 = λ ns. All IsNumber ns in subst P (sym same) (numbers_of names count keys logs)
-
-pub logs_found : (names : List Name) (count : ℕ) (keys numbers : List ℕ) (folder now : Folder) → numbers ≡ keys → now ≡ folder → IsStrictlySortedBy nat_cmp keys → AreLogNumbers count names keys
-    → ((name : Name) → IsWithin count names name ↔ IsSome (folder name)) → AreLogsAbove 0 numbers now
-logs_found names count keys numbers folder now same_numbers same sorted logs listed =
-    let P : List ℕ → Type 0 = λ ns. AreLogsAbove 0 ns now in
-    let Q : Folder → Type 0 = λ f. AreLogsAbove 0 keys f in
-    subst P (sym same_numbers) (subst Q (sym same) (begins names count keys folder sorted logs listed))
 
 -- no number is left
 pub none_left : (folder : Folder) (now : Map) (last greatest number : ℕ) → HasOnlyLogs folder → HasAll folder now last greatest → greatest < 10 ^ 15 → number ≡ 10 ^ 15

@@ -32,13 +32,13 @@ IsWriting (Corrupt name place) = ⊥
 IsWriting (Full number) = Unit {0}
 IsWriting Broken = Unit {0}
 
--- the folder was asked for nothing
-abbrev pub IsRefusal : StoreErr → Type 0
-IsRefusal Disk = ⊥
-IsRefusal OutOfMemory = ⊥
-IsRefusal (Corrupt name place) = Unit {0}
-IsRefusal (Full number) = Unit {0}
-IsRefusal Broken = Unit {0}
+-- a failure after which nothing was written: an opening may have listed, synced and read, a write and a sync have asked the folder for nothing
+abbrev pub IsUntouched : StoreErr → Type 0
+IsUntouched Disk = ⊥
+IsUntouched OutOfMemory = ⊥
+IsUntouched (Corrupt name place) = Unit {0}
+IsUntouched (Full number) = Unit {0}
+IsUntouched Broken = Unit {0}
 
 -- how a sync of logs may fail
 abbrev pub IsSyncing : StoreErr → Type 0

@@ -1,10 +1,11 @@
 -- What holds of the definitions.
-use Rattle.std.specs.Prelude.{◌≡◌, ℕ, false, List, ◌++◌, length}
+use Rattle.std.specs.Prelude.{◌≡◌, ℕ, ◌<◌, ◌^◌, false, List, [], ◌++◌, length, Some}
 use Rattle.std.specs.FinMap.{empty}
-use Rattle.bl_site.specs.Disk.{Name, Folder, Disk, Cut, IsCut, folder_of}
+use Rattle.bl_site.specs.Disk.{Name, File, Folder, Disk, Cut, IsCut, folder_of}
+use Rattle.bl_names.specs.Names.{IsNumber}
 use Rattle.bl_entry.specs.Batches.{Batch}
 use Rattle.bl_entry.specs.Revisions.{revisions_of, IsMapAt}
-use Rattle.bl_wal.specs.LogFile.{LogFile}
+use Rattle.bl_wal.specs.LogFile.{LogFile, log_name}
 use Rattle.bl_store.specs.Logs.{after_batches, HaveBatches}
 use Rattle.bl_store.specs.Folders.{Stands}
 use Rattle.bl_store.specs.Stored.{StandsOn}
@@ -42,3 +43,8 @@ SyncedStoresAreLeft = (log : LogFile) (older own : List Batch) (last : ℕ) (dis
 -- Wherever a log has data, the logs below it are synced.
 abbrev pub OlderLogsAreSynced : Type 0
 OlderLogsAreSynced = (log : LogFile) (older own : List Batch) (synced last : ℕ) (disk : Disk) → StandsOn log older own synced last disk → AreWhole disk
+
+-- A disk with a log that has data, above one with a byte that is not synced, is not whole.
+abbrev pub UnsyncedLogsAreNotWhole : Type 0
+UnsyncedLogsAreNotWhole = (lower upper : ℕ) (below above : File) (disk : Disk) → IsNumber lower → lower < upper → upper < 10 ^ 15 → disk (log_name lower) ≡ Some below → (below.handed ≡ [] → ⊥)
+    → disk (log_name upper) ≡ Some above → (above.read ≡ [] → ⊥) → AreWhole disk → ⊥

@@ -29,6 +29,12 @@ is_in number numbers = list_any (is_at (nat_cmp number)) numbers
 abbrev pub AreLogNumbers : ℕ → List Name → List ℕ → Type 0
 AreLogNumbers count names numbers = (number : ℕ) → IsTrue (is_in number numbers) ↔ (IsNumber number × IsWithin count names (log_name number))
 
+-- the logs among these names, ascending, and no name that is a store's and no log's
+pub record AreAllLogs (count : ℕ) (names : List Name) (numbers : List ℕ) : Type 0 where
+  pub sorted : IsStrictlySortedBy nat_cmp numbers
+  pub logs : AreLogNumbers count names numbers
+  pub no_other : (name : Name) → IsWithin count names name → IsOther name → ⊥
+
 -- the name's number joins the others where it is a log's
 abbrev pub TakesName : Name → List ℕ → List ℕ → Type 0
 TakesName name old new =

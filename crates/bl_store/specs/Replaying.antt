@@ -1,7 +1,7 @@
 -- A replay on its way from log to log.
 use Rattle.std.specs.Prelude.{◌≡◌, ◌⊎◌, ℕ, ◌<◌, ◌^◌, List, [], ◌∷◌, Some, None, IsSome}
 use Rattle.std.specs.FinMap.{insert, remove, empty}
-use Rattle.bl_site.specs.Disk.{Folder}
+use Rattle.bl_site.specs.Disk.{Folder, Disk, folder_of}
 use Rattle.bl_entry.specs.Batches.{Batch}
 use Rattle.bl_entry.specs.Records.{batches_of}
 use Rattle.bl_entry.specs.Revisions.{Map}
@@ -11,6 +11,8 @@ use Rattle.bl_entry.specs.declared.key.Entry.{Entry}
 use Rattle.bl_names.specs.Names.{IsNumber}
 use Rattle.bl_wal.specs.LogFile.{log_name}
 use Rattle.bl_store.specs.Logs.{records_up_to, after_batches}
+use Rattle.bl_store.specs.Folders.{HasOnlyLogs}
+use Rattle.bl_store.specs.Stored.{IsSynced}
 
 -- what an entry of a batch does to a map; a batch has no blob index
 abbrev pub after_kind : Kind → List ℕ → List ℕ → Map → Map
@@ -35,3 +37,10 @@ pub record HasAll (folder : Folder) (now : Map) (last greatest : ℕ) : Type 0 w
   pub now_is : now ≡ after_batches batches empty
   pub above : (number : ℕ) → greatest < number → number < 10 ^ 15 → folder (log_name number) ≡ None
   pub there : (greatest ≡ 0) ⊎ (IsNumber greatest × IsSome (folder (log_name greatest)))
+
+-- the logs of a folder were synced and replayed
+pub record WasRead (folder : Folder) (disk : Disk) (now : Map) (last greatest : ℕ) : Type 0 where
+  pub only : HasOnlyLogs folder
+  pub same : folder_of disk ≡ folder
+  pub all : HasAll folder now last greatest
+  pub synced : (number : ℕ) → IsNumber number → IsSynced (disk (log_name number))

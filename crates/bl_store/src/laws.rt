@@ -1,6 +1,6 @@
 //! What holds of the definitions: a caller that needs one of these calls it.
 
-ghost use Rattle.bl_store.specs.Laws.{BatchesAreOnce, BatchesMakeMap, CutsStand, DamagedDoNotStand, OlderLogsAreSynced, StoresStand, SyncedStoresAreLeft};
+ghost use Rattle.bl_store.specs.Laws.{BatchesAreOnce, BatchesMakeMap, CutsStand, DamagedDoNotStand, OlderLogsAreSynced, StoresStand, SyncedStoresAreLeft, UnsyncedLogsAreNotWhole};
 
 use bl_entry::{batches_join, operations_change_the_map};
 use bl_log::placed_records_are_records;
@@ -56,4 +56,9 @@ pub fn synced_stores_are_left()
 /// Where a store stands on a disk and one of its logs has data, no log of a lower number has an unsynced byte.
 pub fn older_logs_are_synced()
     ensures { OlderLogsAreSynced }
+{}
+
+/// A disk with an unsynced byte below a log with data, as a store that makes its next log too early leaves it, is not whole.
+pub fn unsynced_logs_are_not_whole()
+    ensures { UnsyncedLogsAreNotWhole }
 {}

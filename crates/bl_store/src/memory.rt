@@ -1,7 +1,6 @@
 //! The map in memory.
 
 ghost use Rattle.std.specs.Prelude.{◌≡◌, OnOk, IfErr};
-ghost use Rattle.std.specs.Option.{option_copied};
 ghost use Rattle.std.specs.FinMap.{insert, remove};
 ghost use Rattle.bl_entry.specs.Revisions.{after_put, after_operations};
 ghost use Rattle.bl_store.specs.Replaying.{after_kind, after_entries};
@@ -9,7 +8,7 @@ ghost use Rattle.bl_store.specs.Stored.{map_in};
 
 use crate::error::StoreErr;
 use bl_code::Octets;
-use bl_entry::{Batch, Entry, Kind};
+use bl_entry::{Batch, Entry, Kind, Operation};
 use std::alloc::Global;
 use std::collections::BTreeMap;
 
@@ -62,26 +61,25 @@ pub(crate) fn put_entries(
 fn put_operation(
     alloc: Global,
     map: &mut BTreeMap<Octets, Octets>,
-    user: &[u8],
-    put: Option<&[u8]>,
+    operation: &Operation,
 ) -> Result<(), StoreErr>
-    ensures put { OnOk result (map_in map.new.entries ≡ after_put user.now (option_copied put.entry) (map_in map.old.entries)) }
+    ensures put { OnOk result (map_in map.new.entries ≡ after_put operation.now.key operation.now.put (map_in map.old.entries)) }
     ensures memory { IfErr result (λ e. e ≡ StoreErr.OutOfMemory) }
 {
-    let key = Octets::from_slice(alloc, user)?;
-    match put {
+    match &operation.put {
         Some(value) => {
-            let value = Octets::from_slice(alloc, value)?;
+            let key = Octets::from_slice(alloc, operation.key.as_slice())?;
+            let value = Octets::from_slice(alloc, value.as_slice())?;
             put_pair(map, key, value)
         }
         None => {
-            take_key(map, &key);
+            take_key(map, &operation.key);
             Ok(())
         }
     }
 }
 
-// The operations of a batch are written, one after another.
+/// The operations of a batch are written, one after another.
 pub(crate) fn put_operations(
     alloc: Global,
     map: &mut BTreeMap<Octets, Octets>,
@@ -90,11 +88,8 @@ pub(crate) fn put_operations(
     ensures put { OnOk result (map_in map.new.entries ≡ after_operations batch.now (map_in map.old.entries)) }
     ensures memory { IfErr result (λ e. e ≡ StoreErr.OutOfMemory) }
 {
-    for place in 0..batch.count() {
-        let Some(user) = batch.key_at(place) else {
-            unreachable!();
-        };
-        put_operation(alloc, map, user, batch.value_at(place))?;
+    for operation in batch.operations() {
+        put_operation(alloc, map, operation)?;
     }
     Ok(())
 }

@@ -1,14 +1,12 @@
 //! The names in a folder.
 
-ghost use Rattle.std.specs.Prelude.{◌≡◌, ℕ, ◌↔◌, ◌⊎◌, List, [], ◌++◌, length, map, All, IfOk, IfErr, OnOk, IsTrue, Err, string_bytes, MatchOption, IfSome, Some, false, true};
-ghost use Rattle.std.specs.Ordering.{nat_cmp, is_lt};
+ghost use Rattle.std.specs.Prelude.{◌≡◌, ℕ, ◌↔◌, ◌⊎◌, List, length, map, IfOk, IfErr, OnOk, IsTrue, Err, string_bytes, MatchOption, false, true};
+ghost use Rattle.std.specs.Ordering.{nat_cmp};
 ghost use Rattle.std.specs.List.Sorted.{IsStrictlySortedBy};
 ghost use Rattle.bl_code.specs.Order.{bytes_lt};
-ghost use Rattle.bl_site.specs.Disk.{Name};
 ghost use Rattle.bl_names.specs.declared.name.FileName.TheVariants.{Log};
-ghost use Rattle.bl_names.specs.Names.{IsNameOf};
-ghost use Rattle.bl_store.specs.Folders.{IsOther};
-ghost use Rattle.bl_store.specs.Listing.{IsWithin, IsLeastOther, AreLogNumbers, TakesName};
+ghost use Rattle.bl_store.specs.Folders.{is_log, IsOther};
+ghost use Rattle.bl_store.specs.Listing.{IsLeastOther, AreAllLogs, TakesName};
 
 use crate::error::StoreErr;
 use bl_code::Octets;
@@ -16,13 +14,35 @@ use bl_names::{FileName, names_one, parse_name};
 use std::alloc::Global;
 use std::collections::BTreeSet;
 
-// Whether the name is a store's and no log's.
-fn is_other(name: &str) -> bool
-    ensures { IsTrue result ↔ IsOther name.now }
+// The number of a file, if it is a log.
+fn number_of(file: FileName) -> Option<u64>
+    ensures { MatchOption result (is_log file ≡ false) (λ number. file ≡ Log number) }
 {
-    match parse_name(name) {
-        None | Some(FileName::Log(_)) => false,
-        Some(_) => true,
+    match file {
+        FileName::Log(number) => Some(number),
+        FileName::Current => None,
+        FileName::Manifest(_) => None,
+        FileName::Table(_) => None,
+        FileName::Blob(_) => None,
+        FileName::Temp(_) => None,
+    }
+}
+
+// The number of a log's name joins the others. Answers whether the name is a store's and no log's.
+fn put_name(numbers: &mut BTreeSet<u64>, name: &str) -> Result<bool, StoreErr>
+    ensures put { OnOk result (TakesName name.now numbers.old.keys numbers.new.keys) }
+    ensures other { IfOk result (λ other. IsTrue other ↔ IsOther name.now) }
+    ensures memory { IfErr result (λ e. e ≡ StoreErr.OutOfMemory) }
+{
+    let Some(file) = parse_name(name) else {
+        return Ok(false);
+    };
+    match number_of(file) {
+        Some(number) => {
+            numbers.insert(number)?;
+            Ok(false)
+        }
+        None => Ok(true),
     }
 }
 
@@ -37,39 +57,19 @@ fn first_of<'a>(first: Option<&'a String>, name: &'a String) -> &'a String
     }
 }
 
-// The first of the names that are a store's and no log's.
-fn first_other(names: &[String]) -> Option<&String>
-    ensures { MatchOption result ((name : Name) → IsWithin (length names.now) (map string_bytes names.now) name → IsOther name → ⊥)
-        (λ m. IsLeastOther (length names.now) (map string_bytes names.now) (string_bytes m.now)) }
+// A file of this name may not be there.
+fn refusal(alloc: Global, name: &String) -> StoreErr
+    ensures { (result ≡ StoreErr.OutOfMemory) ⊎ (result ≡ StoreErr.Corrupt (string_bytes name.now) 0) }
 {
-    let mut first: Option<&String> = None;
-    for name in names {
-        if is_other(name.as_str()) {
-            first = Some(first_of(first, name));
-        }
-    }
-    first
-}
-
-/// Refuses a folder that has a name of a store that is no log's: `Corrupt` of the first one.
-pub(crate) fn refuse_others(alloc: Global, names: &[String]) -> Result<(), StoreErr>
-    ensures none { OnOk result ((name : Name) → IsWithin (length names.now) (map string_bytes names.now) name → IsOther name → ⊥) }
-    ensures corrupt { (name : List ℕ) (place : ℕ) → result ≡ Err (StoreErr.Corrupt name place) → IsLeastOther (length names.now) (map string_bytes names.now) name × (place ≡ 0) }
-    ensures causes { IfErr result (λ e. (e ≡ StoreErr.OutOfMemory) ⊎ ((name : List ℕ) × (e ≡ StoreErr.Corrupt name 0))) }
-{
-    match first_other(names) {
-        None => Ok(()),
-        Some(name) => {
-            let name = Octets::from_slice(alloc, name.as_bytes())?;
-            Err(StoreErr::Corrupt(name, 0))
-        }
+    match Octets::from_slice(alloc, name.as_bytes()) {
+        Ok(name) => StoreErr::Corrupt(name, 0),
+        Err(_) => StoreErr::OutOfMemory,
     }
 }
 
 // The keys of a set, in order.
 fn in_order(alloc: Global, mut numbers: BTreeSet<u64>) -> Result<Vec<u64>, StoreErr>
-    ensures same { IfOk result (λ v. v.items ≡ numbers.keys) }
-    ensures sorted { IfOk result (λ v. IsStrictlySortedBy nat_cmp v.items) }
+    ensures ordered { IfOk result (λ v. (v.items ≡ numbers.keys) × IsStrictlySortedBy nat_cmp v.items) }
     ensures memory { IfErr result (λ e. e ≡ StoreErr.OutOfMemory) }
 {
     let mut ordered = Vec::with_capacity(alloc, numbers.len())?;
@@ -79,56 +79,23 @@ fn in_order(alloc: Global, mut numbers: BTreeSet<u64>) -> Result<Vec<u64>, Store
     Ok(ordered)
 }
 
-// The number of a file, if it is a log.
-fn number_of(file: FileName) -> Option<u64>
-    ensures found { IfSome result (λ number. file ≡ Log number) }
-    ensures all { (number : ℕ) → file ≡ Log number → result ≡ Some number }
-{
-    match file {
-        FileName::Log(number) => Some(number),
-        FileName::Current => None,
-        FileName::Manifest(_) => None,
-        FileName::Table(_) => None,
-        FileName::Blob(_) => None,
-        FileName::Temp(_) => None,
-    }
-}
-
-// The number of a log, by its name.
-fn log_number(name: &str) -> Option<u64>
-    ensures found { IfSome result (λ number. IsNameOf name.now (Log number)) }
-    ensures all { (number : ℕ) → IsNameOf name.now (Log number) → result ≡ Some number }
-{
-    match parse_name(name) {
-        Some(file) => number_of(file),
-        None => None,
-    }
-}
-
-// The number of a log's name joins the others.
-fn put_number(numbers: &mut BTreeSet<u64>, name: &str) -> Result<(), StoreErr>
-    ensures put { OnOk result (TakesName name.now numbers.old.keys numbers.new.keys) }
-    ensures memory { IfErr result (λ e. e ≡ StoreErr.OutOfMemory) }
-{
-    match log_number(name) {
-        Some(number) => {
-            numbers.insert(number)?;
-            Ok(())
-        }
-        None => Ok(()),
-    }
-}
-
-/// The numbers of the logs among the names, ascending.
+/// The numbers of the logs among the names, ascending, where no name is a store's and no log's: `Corrupt` of the first such.
 pub(crate) fn log_numbers(alloc: Global, names: &[String]) -> Result<Vec<u64>, StoreErr>
-    ensures numbers { IfOk result (λ v. AreLogNumbers (length names.now) (map string_bytes names.now) v.items) }
-    ensures sorted { IfOk result (λ v. IsStrictlySortedBy nat_cmp v.items) }
-    ensures memory { IfErr result (λ e. e ≡ StoreErr.OutOfMemory) }
+    ensures logs { IfOk result (λ v. AreAllLogs (length names.now) (map string_bytes names.now) v.items) }
+    ensures corrupt { (name : List ℕ) (place : ℕ) → result ≡ Err (StoreErr.Corrupt name place) → IsLeastOther (length names.now) (map string_bytes names.now) name × (place ≡ 0) }
+    ensures causes { IfErr result (λ e. (e ≡ StoreErr.OutOfMemory) ⊎ ((name : List ℕ) × (e ≡ StoreErr.Corrupt name 0))) }
 {
     names_one();
     let mut numbers = BTreeSet::new(alloc);
+    let mut first: Option<&String> = None;
     for name in names {
-        put_number(&mut numbers, name.as_str())?;
+        let is_other = put_name(&mut numbers, name.as_str())?;
+        if is_other {
+            first = Some(first_of(first, name));
+        }
     }
-    in_order(alloc, numbers)
+    match first {
+        None => in_order(alloc, numbers),
+        Some(name) => Err(refusal(alloc, name)),
+    }
 }

@@ -2,31 +2,29 @@
 
 ghost use Rattle.std.specs.Prelude.{◌≡◌, ℕ, ◌+◌, ◌-◌, ◌<◌, ◌≤◌, ◌^◌, ◌⊎◌, List, length, max, IfOk, IfErr, OnOk, IsErrOf, IsSome, Err, All};
 ghost use Rattle.bl_site.specs.Disk.{Name, MayLeave, folder_of};
-ghost use Rattle.bl_site.specs.Calls.{KeepsDisk, LeavesOnly, Syncs};
+ghost use Rattle.bl_site.specs.Calls.{LeavesOnly, Syncs};
 ghost use Rattle.bl_site.specs.Causes.{Rose};
+ghost use Rattle.bl_site.specs.Quiet.{OnlyReads, TellsNothing};
 ghost use Rattle.bl_names.specs.Names.{IsNumber};
 ghost use Rattle.bl_wal.specs.LogFile.{log_name};
 ghost use Rattle.bl_store.specs.Folders.{HasOnlyLogs, IsFirstOther};
 ghost use Rattle.bl_store.specs.Damage.{BreaksAt, IsDamaged};
 ghost use Rattle.bl_store.specs.Listing.{AreLogsAbove};
-ghost use Rattle.bl_store.specs.Replaying.{HasReplayed, HasAll};
+ghost use Rattle.bl_store.specs.Replaying.{HasReplayed, HasAll, WasRead};
 ghost use Rattle.bl_store.specs.Stored.{map_in, IsSynced, KeepsOthers, MakesNoFile};
 ghost use Rattle.bl_store.specs.Cuts.{LeavesFound, AreReadAsWritten, FindsNoNewFile};
-ghost use Rattle.bl_store.specs.Causes.{IsReading, IsRefusal, IsSyncing};
+ghost use Rattle.bl_store.specs.Causes.{IsReading, IsUntouched, IsSyncing};
 
 use crate::error::StoreErr;
 use crate::memory::put_entries;
-use crate::names::{log_numbers, refuse_others};
+use crate::names::log_numbers;
 use bl_code::Octets;
 use bl_entry::batches_join;
-use bl_names::{FileName, print_name};
+use bl_names::{FILE_LIMIT, FileName, print_name};
 use bl_site::Site;
 use bl_wal::replay;
 use std::alloc::Global;
 use std::collections::BTreeMap;
-
-// Files have numbers below this one.
-const FILE_LIMIT: u64 = 1_000_000_000_000_000;
 
 /// What the logs of a folder hold.
 #[derive(Drop)]
@@ -44,16 +42,11 @@ fn list_logs<S: Site>(alloc: Global, site: &mut S) -> Result<Vec<u64>, StoreErr>
     ensures logs { S.shows → IfOk result (λ v. AreLogsAbove 0 v.items (folder_of (S.disk site.old))) }
     ensures only { S.shows → OnOk result (HasOnlyLogs (folder_of (S.disk site.old))) }
     ensures corrupt { S.shows → (name : Name) (place : ℕ) → result ≡ Err (StoreErr.Corrupt name place) → IsFirstOther name (folder_of (S.disk site.old)) × (place ≡ 0) }
-    ensures stays { S.shows → KeepsDisk S.disk S.may_be S.certain site.old site.new }
-    ensures cuts { S.shows → LeavesOnly S.clock S.left_since site.old site.new (MayLeave (S.may_be site.old) (S.told site.old)) }
-    ensures told { S.shows → S.told site.new ≡ S.told site.old }
+    ensures quiet { OnlyReads S.Site site.old site.new }
     ensures causes { IfErr result IsReading }
     ensures disk { IsErrOf result StoreErr.Disk → Rose (S.disk_faults site.old) (S.disk_faults site.new) }
-    ensures later { S.disk_faults site.old ≤ S.disk_faults site.new }
-    ensures tell_faults { S.tell_faults site.new ≡ S.tell_faults site.old }
 {
     let names = site.list(alloc)?;
-    refuse_others(alloc, names.as_slice())?;
     log_numbers(alloc, names.as_slice())
 }
 
@@ -68,11 +61,9 @@ fn sync_log<S: Site>(alloc: Global, site: &mut S, number: u64) -> Result<(), Sto
     ensures certain { S.shows → S.certain site.old → S.certain site.new }
     ensures before { S.shows → LeavesOnly S.clock S.left_since site.old site.new (LeavesFound (S.may_be site.old) (S.told site.old)) }
     ensures cuts { S.shows → AreReadAsWritten (S.disk site.old) → LeavesOnly S.clock S.left_since site.old site.new (MayLeave (S.may_be site.old) (S.told site.old)) }
-    ensures told { S.shows → S.told site.new ≡ S.told site.old }
+    ensures tells_nothing { TellsNothing S.Site site.old site.new }
     ensures causes { IfErr result IsSyncing }
     ensures disk { IsErrOf result StoreErr.Disk → Rose (S.disk_faults site.old) (S.disk_faults site.new) }
-    ensures later { S.disk_faults site.old ≤ S.disk_faults site.new }
-    ensures tell_faults { S.tell_faults site.new ≡ S.tell_faults site.old }
 {
     let name = print_name(alloc, &FileName::Log(number))?;
     site.sync(name.as_str())?;
@@ -92,11 +83,9 @@ fn sync_logs<S: Site>(alloc: Global, site: &mut S, numbers: &[u64]) -> Result<()
     ensures certain { S.shows → S.certain site.old → S.certain site.new }
     ensures before { S.shows → LeavesOnly S.clock S.left_since site.old site.new (LeavesFound (S.may_be site.old) (S.told site.old)) }
     ensures cuts { S.shows → AreReadAsWritten (S.disk site.old) → LeavesOnly S.clock S.left_since site.old site.new (MayLeave (S.may_be site.old) (S.told site.old)) }
-    ensures told { S.shows → S.told site.new ≡ S.told site.old }
+    ensures tells_nothing { TellsNothing S.Site site.old site.new }
     ensures causes { IfErr result IsSyncing }
     ensures disk { IsErrOf result StoreErr.Disk → Rose (S.disk_faults site.old) (S.disk_faults site.new) }
-    ensures later { S.disk_faults site.old ≤ S.disk_faults site.new }
-    ensures tell_faults { S.tell_faults site.new ≡ S.tell_faults site.old }
 {
     for number in numbers {
         sync_log(alloc, site, *number)?;
@@ -118,13 +107,9 @@ fn replay_log<S: Site>(
         → HasReplayed (folder_of (S.disk site.old)) (number - 1) (map_in memory.old.map.entries) memory.old.last
         → (name ≡ log_name number) × BreaksAt (folder_of (S.disk site.old)) number place }
     ensures greatest { OnOk result (memory.new.greatest ≡ number) }
-    ensures stays { S.shows → KeepsDisk S.disk S.may_be S.certain site.old site.new }
-    ensures cuts { S.shows → LeavesOnly S.clock S.left_since site.old site.new (MayLeave (S.may_be site.old) (S.told site.old)) }
-    ensures told { S.shows → S.told site.new ≡ S.told site.old }
+    ensures quiet { OnlyReads S.Site site.old site.new }
     ensures causes { IfErr result IsReading }
     ensures disk { IsErrOf result StoreErr.Disk → Rose (S.disk_faults site.old) (S.disk_faults site.new) }
-    ensures later { S.disk_faults site.old ≤ S.disk_faults site.new }
-    ensures tell_faults { S.tell_faults site.new ≡ S.tell_faults site.old }
 {
     batches_join();
     let replayed = replay(alloc, site, number, memory.last)?;
@@ -141,13 +126,9 @@ fn replay_logs<S: Site>(alloc: Global, site: &mut S, numbers: &[u64]) -> Result<
     ensures bound { IfOk result (λ m. m.greatest < 10 ^ 15) }
     ensures corrupt { S.shows → (name : Name) (place : ℕ) → result ≡ Err (StoreErr.Corrupt name place)
         → (number : ℕ) × (name ≡ log_name number) × BreaksAt (folder_of (S.disk site.old)) number place }
-    ensures stays { S.shows → KeepsDisk S.disk S.may_be S.certain site.old site.new }
-    ensures cuts { S.shows → LeavesOnly S.clock S.left_since site.old site.new (MayLeave (S.may_be site.old) (S.told site.old)) }
-    ensures told { S.shows → S.told site.new ≡ S.told site.old }
+    ensures quiet { OnlyReads S.Site site.old site.new }
     ensures causes { IfErr result IsReading }
     ensures disk { IsErrOf result StoreErr.Disk → Rose (S.disk_faults site.old) (S.disk_faults site.new) }
-    ensures later { S.disk_faults site.old ≤ S.disk_faults site.new }
-    ensures tell_faults { S.tell_faults site.new ≡ S.tell_faults site.old }
 {
     let mut memory = Memory {
         map: BTreeMap::new(alloc),
@@ -162,24 +143,19 @@ fn replay_logs<S: Site>(alloc: Global, site: &mut S, numbers: &[u64]) -> Result<
 
 /// The logs of the folder are synced, in order of number, and replayed.
 pub(crate) fn read_logs<S: Site>(alloc: Global, site: &mut S) -> Result<Memory, StoreErr>
-    ensures only { S.shows → OnOk result (HasOnlyLogs (folder_of (S.disk site.old))) }
-    ensures same { S.shows → OnOk result (folder_of (S.disk site.new) ≡ folder_of (S.disk site.old)) }
-    ensures synced { S.shows → OnOk result ((number : ℕ) → IsNumber number → IsSynced (S.disk site.new (log_name number))) }
+    ensures read { S.shows → IfOk result (λ m. WasRead (folder_of (S.disk site.old)) (S.disk site.new) (map_in m.map.entries) m.last m.greatest) }
     ensures others { S.shows → KeepsOthers (S.disk site.old) (S.disk site.new) }
     ensures no_file { S.shows → MakesNoFile (S.disk site.old) (S.disk site.new) }
     ensures no_new { S.shows → S.certain site.old → LeavesOnly S.clock S.left_since site.old site.new (FindsNoNewFile (S.disk site.old)) }
-    ensures replayed { S.shows → IfOk result (λ m. HasAll (folder_of (S.disk site.old)) (map_in m.map.entries) m.last m.greatest) }
     ensures bound { IfOk result (λ m. m.greatest < 10 ^ 15) }
     ensures corrupt { S.shows → (name : Name) (place : ℕ) → result ≡ Err (StoreErr.Corrupt name place) → IsDamaged (folder_of (S.disk site.old)) name place }
-    ensures refused { S.shows → IfErr result (λ e. IsRefusal e → folder_of (S.disk site.new) ≡ folder_of (S.disk site.old)) }
+    ensures refused { S.shows → IfErr result (λ e. IsUntouched e → folder_of (S.disk site.new) ≡ folder_of (S.disk site.old)) }
     ensures certain { S.shows → S.certain site.old → S.certain site.new }
     ensures before { S.shows → LeavesOnly S.clock S.left_since site.old site.new (LeavesFound (S.may_be site.old) (S.told site.old)) }
     ensures cuts { S.shows → AreReadAsWritten (S.disk site.old) → LeavesOnly S.clock S.left_since site.old site.new (MayLeave (S.may_be site.old) (S.told site.old)) }
-    ensures told { S.shows → S.told site.new ≡ S.told site.old }
+    ensures tells_nothing { TellsNothing S.Site site.old site.new }
     ensures causes { IfErr result IsReading }
     ensures disk { IsErrOf result StoreErr.Disk → Rose (S.disk_faults site.old) (S.disk_faults site.new) }
-    ensures later { S.disk_faults site.old ≤ S.disk_faults site.new }
-    ensures tell_faults { S.tell_faults site.new ≡ S.tell_faults site.old }
 {
     let numbers = list_logs(alloc, site)?;
     sync_logs(alloc, site, &numbers)?;

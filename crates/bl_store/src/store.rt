@@ -14,7 +14,7 @@ ghost use Rattle.bl_store.specs.Folders.{Stands};
 ghost use Rattle.bl_store.specs.Pairs.{pairs_between};
 ghost use Rattle.bl_store.specs.Stored.{StandsOn, next_batch, next_record, wrote, Carries, Opens, MayAppend, MayHold, KeepsAllBut, KeepsOthers, HasNextLog, IsOpened};
 ghost use Rattle.bl_store.specs.Cuts.{BeforeBarrier, FindsOpened, LeavesFirst};
-ghost use Rattle.bl_store.specs.Causes.{IsOpening, IsWriting, IsEnding, IsRefusal};
+ghost use Rattle.bl_store.specs.Causes.{IsOpening, IsWriting, IsEnding, IsUntouched};
 
 use crate::error::StoreErr;
 use crate::laws::{batches_are_once, cuts_stand, stores_stand};
@@ -88,8 +88,8 @@ impl Store {
         ensures corrupt { S.shows → (name : Name) (place : ℕ) → result ≡ Err (StoreErr.Corrupt name place) → IsDamaged (folder_of (S.disk site.old)) name place }
         ensures full { S.shows → (number : ℕ) → result ≡ Err (StoreErr.Full number) → (number ≡ 10 ^ 15) × IsSome (folder_of (S.disk site.old) (log_name (10 ^ 15 - 1)))
             × ((batches : Batches) × ((last : ℕ) × Stands (folder_of (S.disk site.old)) batches last)) }
-        ensures same { S.shows → IfErr result (λ e. IsRefusal e → folder_of (S.disk site.new) ≡ folder_of (S.disk site.old)) }
-        ensures stays_certain { S.shows → IfErr result (λ e. IsRefusal e → S.certain site.old → S.certain site.new) }
+        ensures same { S.shows → IfErr result (λ e. IsUntouched e → folder_of (S.disk site.new) ≡ folder_of (S.disk site.old)) }
+        ensures stays_certain { S.shows → IfErr result (λ e. IsUntouched e → S.certain site.old → S.certain site.new) }
 
         // Wherever the next log is there, the disk is as after an opening that ended well.
         ensures made { S.shows → HasNextLog (folder_of (S.disk site.old)) (S.disk site.new) → IsOpened (folder_of (S.disk site.old)) (S.disk site.new) }
@@ -149,7 +149,7 @@ impl Store {
         ensures broken { (result ≡ Err StoreErr.Broken) ↔ (self.old.broken ≡ true) }
         ensures full { (last : ℕ) → result ≡ Err (StoreErr.Full last) → (last ≡ self.old.last) × (2 ^ 56 ≤ last + length batch.now) }
         ensures fits { OnOk result (self.old.last + length batch.now < 2 ^ 56) }
-        ensures refused { IfErr result (λ e. IsRefusal e → (self.new ≡ self.old) × (site.new ≡ site.old)) }
+        ensures refused { IfErr result (λ e. IsUntouched e → (self.new ≡ self.old) × (site.new ≡ site.old)) }
         ensures stays { OnErr result (self.new.broken ≡ false → self.new ≡ self.old) }
 
         // After `Disk` it reads as before.
@@ -199,6 +199,14 @@ impl Store {
         Ok(())
     }
 
+    /// Lets the map go, so that its memory is free before the folder is opened again. The store is broken from then on.
+    pub fn let_go(&mut self, alloc: Global)
+        ensures { self.new.broken ≡ true }
+    {
+        self.broken = true;
+        self.map = BTreeMap::new(alloc);
+    }
+
     /// Syncs the log in use: all batches written are on the disk.
     ///
     /// Errors: `Broken` exactly where the store is broken, and then nothing has changed; `Disk` and `OutOfMemory`, after which
@@ -228,7 +236,7 @@ impl Store {
         ensures kept { S.shows → IsErrOf result StoreErr.OutOfMemory → KeepsDisk S.disk S.may_be S.certain site.old site.new }
 
         ensures broken { (result ≡ Err StoreErr.Broken) ↔ (self.old.broken ≡ true) }
-        ensures refused { IfErr result (λ e. IsRefusal e → (self.new ≡ self.old) × (site.new ≡ site.old)) }
+        ensures refused { IfErr result (λ e. IsUntouched e → (self.new ≡ self.old) × (site.new ≡ site.old)) }
         ensures told { S.shows → S.told site.new ≡ S.told site.old }
         ensures causes { IfErr result IsEnding }
         ensures disk { IsErrOf result StoreErr.Disk → Rose (S.disk_faults site.old) (S.disk_faults site.new) }

@@ -96,14 +96,27 @@ fn with_first(alloc: Global, first: &Edit) -> Result<MemSite, Fail>
     Ok(site)
 }
 
+// A manifest of two edits is written.
+fn write_edits(
+    alloc: Global,
+    site: &mut MemSite,
+    first: &Edit,
+    second: &Edit,
+) -> Result<(), ManifestErr>
+    requires first { IsEdit first.now }
+    requires second { IsEdit second.now }
+{
+    let mut manifest = Manifest::create(alloc, site, 1, first)?;
+    manifest.append(alloc, site, second)
+}
+
 // A folder whose manifest has two edits.
 fn with_edits(alloc: Global, first: &Edit, second: &Edit) -> Result<MemSite, Fail>
     requires first { IsEdit first.now }
     requires second { IsEdit second.now }
 {
     let mut site = MemSite::start(alloc)?;
-    let mut manifest = Manifest::create(alloc, &mut site, 1, first).map_err(failed)?;
-    manifest.append(alloc, &mut site, second).map_err(failed)?;
+    write_edits(alloc, &mut site, first, second).map_err(failed)?;
     Ok(site)
 }
 

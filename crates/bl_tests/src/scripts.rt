@@ -3,6 +3,7 @@
 ghost use Rattle.std.specs.Prelude.{◌<◌};
 
 mod cuts;
+mod left;
 
 use bl_shell::{Status, run};
 use bl_site_mem::{MemSite, MemSource};

@@ -1,13 +1,14 @@
 use Rattle.std.proofs.Common.{◌≡◌, ◌∙◌, ap, arith}
 use Rattle.bl_site.specs.Disk.{Disk, folder_of}
 use Rattle.bl_log.specs.Reading.{Reading}
-use Rattle.bl_records.proofs.FoundLemmas.{next_found, more_wanted, end_told, piece_fed, on_err, stays_found, wants_none}
+use Rattle.bl_code.proofs.Basics.{on_any_err}
+use Rattle.bl_records.proofs.FoundLemmas.{next_found, more_wanted, end_told, piece_fed, stays_found, wants_none}
 use Rattle.bl_site.proofs.Quiet.{reads_on}
 use Rattle.bl_records.proofs.reader.read_next.Goals as goal
 
 pub returns-in_err-payload-clause-err : goal.returns-in_err-payload-clause-err
 returns-in_err-payload-clause-err g c = λ shown.
-    on_err c.from_residual.result _
+    on_any_err c.from_residual.result _
     (stays_found c.args.name.now (folder_of (g.S.Site.disk c.args.site.now) c.args.name.now) c.args.offset.now c.pieces.offset c.args.reader.now c.pieces.reader c.next.new.self c.in_err-payload.ensures.err (c.pieces.invariant.found shown))
 
 pub returns-in-Found-clause-answers : goal.returns-in-Found-clause-answers
@@ -24,7 +25,7 @@ pub returns-in_err-there-in-NeedMore-clause-err : goal.returns-in_err-there-in-N
 returns-in_err-there-in-NeedMore-clause-err g c = λ shown.
     let site = g.S.Site in
     let file = folder_of (site.disk c.args.site.now) c.args.name.now in
-    on_err c.from_residual-in_err-there-in-NeedMore.result _
+    on_any_err c.from_residual-in_err-there-in-NeedMore.result _
     (piece_fed c.args.name.now file (folder_of (site.disk c.pieces.site) c.args.name.now) c.args.offset.now c.pieces.offset c.feed_piece.new.offset c.args.reader.now c.pieces.reader c.next.new.self c.feed_piece.new.reader
     (ap (λ (d : Disk). folder_of d c.args.name.now) (c.pieces.invariant.quiet.stays shown).same) (c.pieces.invariant.found shown)
     (more_wanted c.args.name.now file c.pieces.offset c.pieces.reader c.next.new.self c.in_ok-payload.field-0 c.in-NeedMore.is c.in_ok-payload.ensures.answers c.next.ensures.closed) (c.in_err-there-in-NeedMore.ensures.keeps shown))

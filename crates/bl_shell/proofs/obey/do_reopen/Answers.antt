@@ -1,16 +1,19 @@
-use Rattle.std.proofs.Common.{ℕ, List, refl, subst, ap, Err, inl, inr}
+use Rattle.std.proofs.Common.{◌≡◌, ◌++◌, ℕ, List, refl, sym, subst, ap, Err, inl, inr}
 use Rattle.std.proofs.lemmas.Result.{err_from_is_err_and}
 use Rattle.bl_site.proofs.Moments.{widened}
 use Rattle.bl_script.specs.Printing.{ok_line}
 use Rattle.bl_script.specs.declared.command.Command.TheVariants.{Reopen}
 use Rattle.bl_script.specs.declared.command.Parsed.TheVariants.{Nothing, Go}
+use Rattle.bl_store.specs.declared.error.StoreErr.TheVariants as store
+use Rattle.bl_store.specs.Causes.{IsUntouched}
 use Rattle.bl_shell.specs.Carried.{TellsFront}
-use Rattle.bl_shell.proofs.OnOk.{each_err, any_err}
+use Rattle.bl_code.proofs.Basics.{on_any_err}
 use Rattle.bl_shell.proofs.CutLemmas.{cut_quiet, leaves_first, least_within}
 use Rattle.bl_shell.proofs.MomentLemmas.{replied}
 use Rattle.bl_shell.proofs.StayLemmas.{reopened_line, stays_reopened, stands, corrupt_was}
-use Rattle.bl_shell.proofs.TellLemmas.{no_limit, tell_broke, tells_nothing}
+use Rattle.bl_shell.proofs.TellLemmas.{no_corrupt, no_limit, tell_broke, tells_nothing, each_err}
 use Rattle.bl_shell.proofs.LimitLemmas.{reopened_room}
+use Rattle.bl_shell.proofs.TopLemmas.{stop_full, stop_not_tell}
 use Rattle.bl_store.proofs.OtherLemmas.{others_same, others_then}
 use Rattle.bl_shell.proofs.obey.do_reopen.Goals as goal
 
@@ -64,12 +67,12 @@ returns-clause-cuts g c = λ shown certain batches least s.
     (stays_reopened c.stores_stand.ensures c.batches_are_once.ensures c.args.store.now _ _ _ _ batches least c.in_ok-store.ensures.usable (c.in_ok-store.ensures.opened shown) refl s)
 
 pub returns-in_err-store-clause-room : goal.returns-in_err-store-clause-room
-returns-in_err-store-clause-room g c = λ shown. any_err c.from_residual.result _ (inl (c.open_site.ensures.told shown))
+returns-in_err-store-clause-room g c = λ shown. on_any_err c.from_residual.result _ (inl (c.open_site.ensures.told shown))
 
 pub returns-in_err-tell-clause-room : goal.returns-in_err-tell-clause-room
 returns-in_err-tell-clause-room g c = λ shown.
     let t = c.requires.there shown in
-    any_err c.from_residual-in_err-tell.result _ (inr (reopened_room c.args.store.now _ t.0 t.1.0 _ _ (c.in_ok-store.ensures.opened shown) t.1.1))
+    on_any_err c.from_residual-in_err-tell.result _ (inr (reopened_room c.args.store.now _ t.0 t.1.0 _ _ (c.in_ok-store.ensures.opened shown) t.1.1))
 
 pub returns-in_err-tell-clause-others : goal.returns-in_err-tell-clause-others
 returns-in_err-tell-clause-others g c = λ shown. others_then _ _ _ (c.open_site.ensures.others shown) (others_same _ _ (c.tell.ensures.stays shown).same)
@@ -81,3 +84,34 @@ pub returns-in_err-tell-clause-full_cuts : goal.returns-in_err-tell-clause-full_
 returns-in_err-tell-clause-full_cuts g c = λ shown certain limit is.
     let p = err_from_is_err_and c.from_residual-in_err-tell.result c.from_residual-in_err-tell.ensures.1 in
     absurd (no_limit c.in_err-tell.field-0.0 limit (cc (is, p.1, p.2)))
+
+pub returns-in_err-store-clause-obeyed : goal.returns-in_err-store-clause-obeyed
+returns-in_err-store-clause-obeyed g c = λ shown is.
+    let p = err_from_is_err_and c.from_residual.result c.from_residual.ensures.1 in
+    absurd (stop_not_tell c.in_err-store.field-0.0 (cc (is, p.1, p.2)))
+
+pub returns-in_err-tell-clause-obeyed : goal.returns-in_err-tell-clause-obeyed
+returns-in_err-tell-clause-obeyed g c = λ shown is.
+    reopened_line c.stores_stand.ensures c.batches_are_once.ensures c.args.store.now _ _ _ _ _ _ _ c.in_ok-store.ensures.usable (c.in_ok-store.ensures.opened shown)
+    (c.tell.ensures.stays shown).same (c.open_site.ensures.told shown) (ap (λ t. t ++ ok_line) (sym (c.open_site.ensures.told shown))) (c.requires.there shown)
+
+pub returns-in_err-store-clause-full_stays : goal.returns-in_err-store-clause-full_stays
+returns-in_err-store-clause-full_stays g c = λ shown limit is.
+    let p = err_from_is_err_and c.from_residual.result c.from_residual.ensures.1 in
+    let e : c.in_err-store.field-0.0 ≡ store.Full limit = stop_full c.in_err-store.field-0.0 limit (cc (is, p.1, p.2)) in
+    c.in_err-store.ensures.same shown (subst IsUntouched (sym e) tt)
+
+pub returns-in_err-tell-clause-full_stays : goal.returns-in_err-tell-clause-full_stays
+returns-in_err-tell-clause-full_stays g c = λ shown limit is.
+    let p = err_from_is_err_and c.from_residual-in_err-tell.result c.from_residual-in_err-tell.ensures.1 in
+    absurd (no_limit c.in_err-tell.field-0.0 limit (cc (is, p.1, p.2)))
+
+pub returns-in_err-tell-clause-full : goal.returns-in_err-tell-clause-full
+returns-in_err-tell-clause-full g c = λ shown limit is.
+    let p = err_from_is_err_and c.from_residual-in_err-tell.result c.from_residual-in_err-tell.ensures.1 in
+    absurd (no_limit c.in_err-tell.field-0.0 limit (cc (is, p.1, p.2)))
+
+pub returns-in_err-tell-clause-corrupt : goal.returns-in_err-tell-clause-corrupt
+returns-in_err-tell-clause-corrupt g c = λ shown name place is.
+    let p = err_from_is_err_and c.from_residual-in_err-tell.result c.from_residual-in_err-tell.ensures.1 in
+    no_corrupt c.in_err-tell.field-0.0 name place (cc (is, p.1, p.2))

@@ -1,14 +1,15 @@
-use Rattle.std.proofs.Common.{ℕ, List, refl, subst}
+use Rattle.std.proofs.Common.{◌++◌, ℕ, List, ap, refl, sym, subst}
+use Rattle.std.proofs.lemmas.Result.{err_from_is_err_and}
 use Rattle.bl_site.proofs.Moments.{widened}
 use Rattle.bl_script.specs.Printing.{ok_line}
 use Rattle.bl_script.specs.declared.command.Command.TheVariants.{Sync}
 use Rattle.bl_script.specs.declared.command.Parsed.TheVariants.{Go}
 use Rattle.bl_shell.specs.Carried.{TellsFront}
-use Rattle.bl_shell.proofs.OnOk.{each_err}
 use Rattle.bl_shell.proofs.CutLemmas.{cut_quiet, leaves_first, least_within}
 use Rattle.bl_shell.proofs.MomentLemmas.{replied}
 use Rattle.bl_shell.proofs.StayLemmas.{synced_line, stays_synced}
-use Rattle.bl_shell.proofs.TellLemmas.{tell_broke, tells_nothing}
+use Rattle.bl_shell.proofs.TellLemmas.{tell_broke, tells_nothing, each_err}
+use Rattle.bl_shell.proofs.TopLemmas.{stop_not_tell}
 use Rattle.bl_store.proofs.OtherLemmas.{log_alone, others_same, others_then}
 use Rattle.bl_shell.proofs.obey.do_sync.Goals as goal
 
@@ -62,3 +63,13 @@ returns-in_err-tell-clause-others g c = λ shown.
 pub returns-clause-others : goal.returns-clause-others
 returns-clause-others g c = λ shown.
     others_then _ _ _ (log_alone c.args.store.now.log.number _ _ (c.requires.there shown).1.1.carries.on.is_number (c.sync.ensures.others shown)) (others_same _ _ (c.tell.ensures.stays shown).same)
+
+pub returns-in_err-sync-clause-obeyed : goal.returns-in_err-sync-clause-obeyed
+returns-in_err-sync-clause-obeyed g c = λ shown is.
+    let p = err_from_is_err_and c.from_residual.result c.from_residual.ensures.1 in
+    absurd (stop_not_tell c.in_err-sync.field-0.0 (cc (is, p.1, p.2)))
+
+pub returns-in_err-tell-clause-obeyed : goal.returns-in_err-tell-clause-obeyed
+returns-in_err-tell-clause-obeyed g c = λ shown is.
+    synced_line c.args.store.now c.sync.new.self _ _ _ _ _ _ c.in_ok-sync.ensures.same (c.in_ok-sync.ensures.synced shown) (c.in_ok-sync.ensures.carried shown)
+    (c.tell.ensures.stays shown).same (c.sync.ensures.told shown) (ap (λ t. t ++ ok_line) (sym (c.sync.ensures.told shown))) (c.requires.there shown)

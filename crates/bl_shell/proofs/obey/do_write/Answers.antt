@@ -1,20 +1,21 @@
-use Rattle.std.proofs.Common.{◌≡◌, ℕ, ◌+◌, List, length, ◌++◌, cond, refl, sym, subst, inl, inr}
+use Rattle.std.proofs.Common.{◌≡◌, ℕ, ◌+◌, List, length, ◌++◌, cond, ap, refl, sym, subst, inl, inr}
 use Rattle.std.proofs.lemmas.Result.{err_from_is_err_and}
 use Rattle.bl_site.specs.Calls.{LeavesOnly}
+use Rattle.bl_site.specs.Disk.{folder_of}
 use Rattle.bl_site.proofs.Moments.{widened}
 use Rattle.bl_script.specs.Printing.{ok_line}
 use Rattle.bl_script.specs.declared.command.Parsed.TheVariants.{Nothing}
 use Rattle.bl_store.specs.declared.error.StoreErr.TheVariants as store
-use Rattle.bl_store.specs.Causes.{IsRefusal}
+use Rattle.bl_store.specs.Causes.{IsUntouched}
 use Rattle.bl_shell.specs.Machine.{Write, numbered}
 use Rattle.bl_shell.specs.Synced.{syncs}
-use Rattle.bl_shell.specs.Carried.{TellsFront, Stays, CutIn}
-use Rattle.bl_shell.proofs.OnOk.{each_err, any_err}
+use Rattle.bl_shell.specs.Carried.{TellsFront, IsServable, CutIn}
+use Rattle.bl_code.proofs.Basics.{on_any_err}
 use Rattle.bl_shell.proofs.CutLemmas.{cut_writing, least_within}
 use Rattle.bl_shell.proofs.MomentLemmas.{unbegun, replied}
 use Rattle.bl_shell.proofs.StayLemmas.{wrote_line, stays_wrote}
-use Rattle.bl_shell.proofs.TellLemmas.{tell_broke, tells_nothing}
-use Rattle.bl_shell.proofs.TopLemmas.{stop_full}
+use Rattle.bl_shell.proofs.TellLemmas.{no_limit, tell_broke, tells_nothing, each_err}
+use Rattle.bl_shell.proofs.TopLemmas.{stop_full, stop_not_tell}
 use Rattle.bl_shell.proofs.LimitLemmas.{written_room}
 use Rattle.bl_store.proofs.OtherLemmas.{log_alone, others_same, others_then}
 use Rattle.bl_shell.proofs.obey.do_write.Goals as goal
@@ -30,7 +31,7 @@ pub returns-in_err-write-clause-full_cuts : goal.returns-in_err-write-clause-ful
 returns-in_err-write-clause-full_cuts g c = λ shown certain limit is batches least s.
     let p = err_from_is_err_and c.from_residual.result c.from_residual.ensures.1 in
     let e : c.in_err-write.field-0.0 ≡ store.Full limit = stop_full c.in_err-write.field-0.0 limit (cc (is, p.1, p.2)) in
-    let same = (c.in_err-write.ensures.refused (subst IsRefusal (sym e) tt)).1 in
+    let same = (c.in_err-write.ensures.refused (subst IsUntouched (sym e) tt)).1 in
     let site = c.args.site.now in
     let P : g.row.S.Denot → Type 0 = λ x. LeavesOnly g.S.Site.clock g.S.Site.left_since site x (CutIn Nothing c.args.store.now batches least (g.S.Site.told site)) in
     subst P (sym same) (unbegun g.S.Site.clock g.S.Site.left_since g.S.Site.disk g.S.Site.told g.S.Site.may_be c.cuts_stand.ensures Nothing c.args.store.now batches least site
@@ -46,7 +47,7 @@ pub returns-in_err-tell-clause-cuts : goal.returns-in_err-tell-clause-cuts
 returns-in_err-tell-clause-cuts g c = λ shown certain order w batches least s.
     let mid = c.write.new.site in
     let disk = g.S.Site.disk mid in
-    let W : List Write → Type 0 = λ ws. Stays c.write.new.self (batches ++ numbered (c.args.store.now.last + 1) ws) (cond (syncs order) (length batches) least) disk in
+    let W : List Write → Type 0 = λ ws. IsServable c.write.new.self (batches ++ numbered (c.args.store.now.last + 1) ws) (cond (syncs order) (length batches) least) disk in
     replied g.S.Site.clock g.S.Site.left_since g.S.Site.disk g.S.Site.told g.S.Site.may_be c.cuts_stand.ensures order c.args.store.now c.write.new.self batches least _ _ mid _
     (widened g.S.Site.clock g.S.Site.left_since _ _ _ _ (λ cut l. cut_writing order c.args.batch.now c.args.store.now batches least _ _ cut w s l) (c.write.ensures.cuts shown certain s.older s.own s.synced s.carries))
     (c.tell.ensures.time shown) (λ other. g.met.S.Site.only shown mid other (c.write.ensures.certain shown certain)) (sym (w.tells c.args.store.now.now)) (c.write.ensures.told shown)
@@ -65,7 +66,7 @@ pub returns-clause-cuts : goal.returns-clause-cuts
 returns-clause-cuts g c = λ shown certain order w batches least s.
     let mid = c.write.new.site in
     let disk = g.S.Site.disk mid in
-    let W : List Write → Type 0 = λ ws. Stays c.write.new.self (batches ++ numbered (c.args.store.now.last + 1) ws) (cond (syncs order) (length batches) least) disk in
+    let W : List Write → Type 0 = λ ws. IsServable c.write.new.self (batches ++ numbered (c.args.store.now.last + 1) ws) (cond (syncs order) (length batches) least) disk in
     replied g.S.Site.clock g.S.Site.left_since g.S.Site.disk g.S.Site.told g.S.Site.may_be c.cuts_stand.ensures order c.args.store.now c.write.new.self batches least _ _ mid _
     (widened g.S.Site.clock g.S.Site.left_since _ _ _ _ (λ cut l. cut_writing order c.args.batch.now c.args.store.now batches least _ _ cut w s l) (c.write.ensures.cuts shown certain s.older s.own s.synced s.carries))
     (c.tell.ensures.time shown) (λ other. g.met.S.Site.only shown mid other (c.write.ensures.certain shown certain)) (sym (w.tells c.args.store.now.now)) (c.write.ensures.told shown)
@@ -73,10 +74,10 @@ returns-clause-cuts g c = λ shown certain order w batches least s.
     (subst W (sym w.writes) (stays_wrote order c.args.batch.now c.args.store.now c.write.new.self _ disk disk batches least w c.in_ok-write.ensures.written (c.in_ok-write.ensures.carried shown) refl s))
 
 pub returns-in_err-write-clause-room : goal.returns-in_err-write-clause-room
-returns-in_err-write-clause-room g c = λ shown. any_err c.from_residual.result _ (inl (c.write.ensures.told shown))
+returns-in_err-write-clause-room g c = λ shown. on_any_err c.from_residual.result _ (inl (c.write.ensures.told shown))
 
 pub returns-in_err-tell-clause-room : goal.returns-in_err-tell-clause-room
-returns-in_err-tell-clause-room g c = λ shown. any_err c.from_residual-in_err-tell.result _ (inr (λ order w.
+returns-in_err-tell-clause-room g c = λ shown. on_any_err c.from_residual-in_err-tell.result _ (inr (λ order w.
     let t = c.requires.there shown in
     written_room order c.args.batch.now c.args.store.now t.0 t.1.0 _ w c.in_ok-write.ensures.fits t.1.1))
 
@@ -90,3 +91,24 @@ returns-in_err-tell-clause-others g c = λ shown.
 pub returns-clause-others : goal.returns-clause-others
 returns-clause-others g c = λ shown.
     others_then _ _ _ (log_alone c.args.store.now.log.number _ _ (c.requires.there shown).1.1.carries.on.is_number (c.write.ensures.others shown)) (others_same _ _ (c.tell.ensures.stays shown).same)
+
+pub returns-in_err-write-clause-obeyed : goal.returns-in_err-write-clause-obeyed
+returns-in_err-write-clause-obeyed g c = λ shown is.
+    let p = err_from_is_err_and c.from_residual.result c.from_residual.ensures.1 in
+    absurd (stop_not_tell c.in_err-write.field-0.0 (cc (is, p.1, p.2)))
+
+pub returns-in_err-tell-clause-obeyed : goal.returns-in_err-tell-clause-obeyed
+returns-in_err-tell-clause-obeyed g c = λ shown is order w.
+    wrote_line order c.args.batch.now c.args.store.now c.write.new.self _ _ _ _ _ _ w c.in_ok-write.ensures.written (c.in_ok-write.ensures.appended shown) (c.in_ok-write.ensures.carried shown)
+    (c.tell.ensures.stays shown).same (c.write.ensures.told shown) (ap (λ t. t ++ ok_line) (sym (c.write.ensures.told shown))) (c.requires.there shown)
+
+pub returns-in_err-write-clause-full_stays : goal.returns-in_err-write-clause-full_stays
+returns-in_err-write-clause-full_stays g c = λ shown limit is.
+    let p = err_from_is_err_and c.from_residual.result c.from_residual.ensures.1 in
+    let e : c.in_err-write.field-0.0 ≡ store.Full limit = stop_full c.in_err-write.field-0.0 limit (cc (is, p.1, p.2)) in
+    ap (λ x. folder_of (g.S.Site.disk x)) (c.in_err-write.ensures.refused (subst IsUntouched (sym e) tt)).1
+
+pub returns-in_err-tell-clause-full_stays : goal.returns-in_err-tell-clause-full_stays
+returns-in_err-tell-clause-full_stays g c = λ shown limit is.
+    let p = err_from_is_err_and c.from_residual-in_err-tell.result c.from_residual-in_err-tell.ensures.1 in
+    absurd (no_limit c.in_err-tell.field-0.0 limit (cc (is, p.1, p.2)))

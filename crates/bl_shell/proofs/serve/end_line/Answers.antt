@@ -1,4 +1,4 @@
-use Rattle.std.proofs.Common.{◌≡◌, [], ◌∷◌, ◌++◌, ap, map, subst, Err}
+use Rattle.std.proofs.Common.{◌≡◌, [], ◌∷◌, ◌++◌, ap, map, sym, subst, Err}
 use Rattle.std.proofs.lemmas.Result.{err_from_is_err_and}
 use Rattle.bl_site.proofs.Moments.{widened}
 use Rattle.bl_script.specs.Lines.{lines_in}
@@ -6,8 +6,8 @@ use Rattle.bl_script.specs.Parsing.{parsed}
 use Rattle.bl_shell.specs.declared.stop.Stop.TheVariants as stop
 use Rattle.bl_shell.specs.Causes.{IsSilent}
 use Rattle.bl_shell.specs.Machine.{orders, orders_of}
-use Rattle.bl_shell.proofs.OnOk.{each_err}
-use Rattle.bl_shell.proofs.CarriedLemmas.{line_obeyed, line_broken, line_full, line_cuts, refused_cuts, cuts_so_far, orders_here, broken}
+use Rattle.bl_shell.proofs.TellLemmas.{each_err}
+use Rattle.bl_shell.proofs.CarriedLemmas.{line_obeyed, line_broken, line_faltered, line_full, line_cuts, refused_cuts, cuts_so_far, orders_here, broken}
 use Rattle.bl_shell.proofs.CutLemmas.{cut_of_given}
 use Rattle.bl_shell.proofs.serve.end_line.Goals as goal
 
@@ -31,7 +31,7 @@ returns-in_err-obey-clause-full g c = λ shown limit is began folder told script
     let p = err_from_is_err_and c.from_residual-in_err-obey.result c.from_residual-in_err-obey.ensures.1 in
     let e : c.in_err-obey.field-0.0 ≡ stop.Full limit = cc (is, p.1, p.2) in
     let f = c.in_err-obey.ensures.full shown limit (ap Err e) in
-    line_full began folder told _ script more _ _ c.in_ok-order.order _ _ _ limit _ begins c.in_ok-order.ensures.parsed f.0 f.1 carried
+    line_full began folder told _ c.stores_stand.ensures c.batches_make_the_map.ensures script more _ _ c.in_ok-order.order _ _ _ _ limit _ begins (c.in_err-obey.ensures.full_stays shown limit (ap Err e)) c.in_ok-order.ensures.parsed f.0 f.1 carried
     (refused_cuts g.S.Site.certain g.S.Site.clock g.S.Site.left_since c.batches_make_the_map.ensures began folder told script _ _ _ _ start c.args.site.now c.obey.new.site carried
     (c.in_err-obey.ensures.full_cuts shown carried.cuts.certain_now limit (ap Err e) _ _ carried.stays))
 
@@ -65,3 +65,10 @@ returns-clause-cuts g c = λ shown began folder told script more start carried.
 
 pub obey-requires-clause-there : goal.obey-requires-clause-there
 obey-requires-clause-there g c = λ shown. let t = c.requires.there shown in (_, (_, t.1.1.1.1.1.stays))
+
+pub returns-in_err-obey-clause-faltered : goal.returns-in_err-obey-clause-faltered
+returns-in_err-obey-clause-faltered g c = λ shown is began folder told script more start begins carried.
+    let p = err_from_is_err_and c.from_residual-in_err-obey.result c.from_residual-in_err-obey.ensures.1 in
+    let e : c.in_err-obey.field-0.0 ≡ stop.Tell = cc (is, p.1, p.2) in
+    line_faltered began folder told _ c.stores_stand.ensures c.batches_make_the_map.ensures script more _ _ _ c.in_ok-order.order _ _ _ _ begins c.in_ok-order.ensures.parsed
+    (c.in_err-obey.ensures.obeyed shown (ap Err e)) (c.in_err-obey.ensures.front shown (subst IsSilent (sym e) tt)) carried

@@ -2,14 +2,15 @@ use Rattle.std.proofs.Common.{◌≡◌, ℕ, ◌+◌, ◌-◌, List, ◌++◌, 
 use Rattle.std.proofs.lemmas.List.{take_rest}
 use Rattle.std.proofs.lemmas.Result.{err_from_is_err_and}
 use Rattle.bl_site.specs.Calls.{LeavesOnly}
+use Rattle.bl_site.specs.Disk.{folder_of}
 use Rattle.bl_shell.specs.declared.stop.Stop.TheVariants as stop
 use Rattle.bl_shell.specs.Causes.{IsSilent}
 use Rattle.bl_shell.specs.Carried.{Carried, Steady, NoLineEnd}
 use Rattle.bl_shell.specs.Cuts.{Stops}
 use Rattle.bl_shell.specs.Machine.{orders}
 use Rattle.bl_shell.specs.Synced.{CutOf}
-use Rattle.bl_shell.specs.Telling.{HasBegun}
-use Rattle.bl_shell.proofs.OnOk.{each_err}
+use Rattle.bl_shell.specs.Telling.{HasBegun, HasFaltered}
+use Rattle.bl_shell.proofs.TellLemmas.{each_err}
 use Rattle.bl_shell.proofs.CarriedLemmas.{pushed, broken, cuts_so_far}
 use Rattle.bl_shell.proofs.PieceLemmas.{line_more, line_follows, rest_follows, piece_ends}
 use Rattle.bl_store.proofs.OtherLemmas.{others_then}
@@ -71,7 +72,7 @@ returns-in_err-end_line-clause-full g c = λ shown limit is began folder told sc
     let e : c.in_err-end_line.field-0.0 ≡ stop.Full limit = cc (is, p.1, p.2) in
     let f = c.in_err-end_line.ensures.full shown limit (ap Err e) began folder told ((script ++ take at piece) ++ slice_range piece at end) (drop (end + 1) piece ++ more) start begins
     (pushed began folder told _ (script ++ take at piece) _ c.lines.line c.push.new.self _ _ _ c.in_ok-push.ensures.ok found.3 (c.lines.invariant.carried shown began folder told script start carried)) in
-    let P : List ℕ → Type 0 = λ s. Stops folder s told (g.S.Site.told c.end_line.new.site) limit (LeavesOnly g.S.Site.clock g.S.Site.left_since start c.end_line.new.site) in
+    let P : List ℕ → Type 0 = λ s. Stops folder (folder_of (g.S.Site.disk c.end_line.new.site)) s told (g.S.Site.told c.end_line.new.site) limit (LeavesOnly g.S.Site.clock g.S.Site.left_since start c.end_line.new.site) in
     subst P (line_follows script piece more at end found.0 found.1 found.2) f
 
 pub returns-in_err-end_line-clause-cuts : goal.returns-in_err-end_line-clause-cuts
@@ -150,3 +151,16 @@ returns-clause-cuts g c = λ shown began folder told script more start carried.
 
 pub returns-in_err-end_line-clause-others : goal.returns-in_err-end_line-clause-others
 returns-in_err-end_line-clause-others g c = λ shown. others_then _ _ _ (c.lines.invariant.others shown) (c.end_line.ensures.others shown)
+
+pub returns-in_err-end_line-clause-faltered : goal.returns-in_err-end_line-clause-faltered
+returns-in_err-end_line-clause-faltered g c = λ shown is began folder told script more start begins carried.
+    let piece = c.args.piece.now in
+    let at = c.lines.at in
+    let end = c.in-Some.end in
+    let found = c.in-Some.ensures in
+    let p = err_from_is_err_and c.from_residual-in_err-end_line.result c.from_residual-in_err-end_line.ensures.1 in
+    let e : c.in_err-end_line.field-0.0 ≡ stop.Tell = cc (is, p.1, p.2) in
+    let f = c.in_err-end_line.ensures.faltered shown (ap Err e) began folder told ((script ++ take at piece) ++ slice_range piece at end) (drop (end + 1) piece ++ more) start begins
+    (pushed began folder told _ (script ++ take at piece) _ c.lines.line c.push.new.self _ _ _ c.in_ok-push.ensures.ok found.3 (c.lines.invariant.carried shown began folder told script start carried)) in
+    let P : List ℕ → Type 0 = λ s. HasFaltered folder (folder_of (g.S.Site.disk c.end_line.new.site)) s told (g.S.Site.told c.end_line.new.site) in
+    subst P (line_follows script piece more at end found.0 found.1 found.2) f

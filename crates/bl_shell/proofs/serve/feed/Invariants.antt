@@ -1,7 +1,7 @@
 use Rattle.std.proofs.Common.{◌≡◌, ℕ, ◌-◌, ◌≤◌, false, List, ◌++◌, length, take}
 use Rattle.bl_site.specs.Disk.{Folder}
 use Rattle.bl_store.specs.Stored.{KeepsOthers}
-use Rattle.bl_shell.specs.Machine.{Began}
+use Rattle.bl_shell.specs.Machine.{Start}
 use Rattle.bl_shell.specs.Carried.{Carried, Steady}
 use Rattle.bl_shell.proofs.serve.feed.Given as goal
 
@@ -14,7 +14,7 @@ invariant-lines g l =
       disk : site.disk_faults l.fn.site ≤ site.disk_faults l.site;
       tell : site.tell_faults l.fn.site ≤ site.tell_faults l.site;
       others : site.shows → KeepsOthers (site.disk l.fn.site) (site.disk l.site);
-      carried : site.shows → (began : Began) (folder : Folder) (told script : List ℕ) (start : g.row.S.Denot)
+      carried : site.shows → (began : Start) (folder : Folder) (told script : List ℕ) (start : g.row.S.Denot)
           → Carried began folder told script l.fn.store l.fn.line (site.disk l.fn.site) (site.told l.fn.site) (Steady site.certain site.clock site.left_since start l.fn.site)
           → Carried began folder told (script ++ take l.at l.piece) l.store l.line (site.disk l.site) (site.told l.site) (Steady site.certain site.clock site.left_since start l.site);
     }

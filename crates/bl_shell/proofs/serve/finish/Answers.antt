@@ -4,9 +4,10 @@ use Rattle.bl_site.specs.Disk.{folder_of}
 use Rattle.bl_shell.specs.declared.stop.Stop.TheVariants as stop
 use Rattle.bl_shell.specs.Causes.{IsSilent}
 use Rattle.bl_shell.specs.Telling.{HasRun}
-use Rattle.bl_shell.proofs.OnOk.{each_err}
+use Rattle.bl_shell.proofs.TellLemmas.{each_err}
 use Rattle.bl_shell.proofs.EndLemmas.{has_run, all_begun, is_kept, last_cuts}
 use Rattle.bl_shell.proofs.StayLemmas.{log_is_there}
+use Rattle.bl_shell.proofs.TopLemmas.{stop_not_tell}
 use Rattle.bl_store.proofs.OtherLemmas.{log_alone, others_then}
 use Rattle.bl_shell.proofs.serve.finish.Goals as goal
 
@@ -74,3 +75,14 @@ returns-clause-kept g c = λ shown began folder told script start begins carried
     let site = c.sync.new.site in
     is_kept c.synced_stores_are_left.ensures c.batches_make_the_map.ensures c.older_logs_are_synced.ensures began folder script told _ _ _ _ _ _ _ _ _ begins sure (λ other. g.met.S.Site.only shown site other sure)
     c.in_ok-sync.ensures.same (c.in_ok-sync.ensures.carried shown) f
+
+pub returns-in_err-end_script-clause-faltered : goal.returns-in_err-end_script-clause-faltered
+returns-in_err-end_script-clause-faltered g c = λ shown is.
+    let p = err_from_is_err_and c.from_residual.result c.from_residual.ensures.1 in
+    let e : c.in_err-end_script.field-0.0 ≡ stop.Tell = cc (is, p.1, p.2) in
+    c.in_err-end_script.ensures.faltered shown (ap Err e)
+
+pub returns-in_err-sync-clause-faltered : goal.returns-in_err-sync-clause-faltered
+returns-in_err-sync-clause-faltered g c = λ shown is.
+    let p = err_from_is_err_and c.from_residual-in_err-sync.result c.from_residual-in_err-sync.ensures.1 in
+    absurd (stop_not_tell c.in_err-sync.field-0.0 (cc (is, p.1, p.2)))

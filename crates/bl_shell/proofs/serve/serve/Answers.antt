@@ -1,14 +1,14 @@
-use Rattle.std.proofs.Common.{◌≡◌, ℕ, ◌≤◌, List, [], ◌++◌, ◌∙◌, ap, sym, subst, refl, append_assoc, append-nil, arith, take, length, length-take, Err}
-use Rattle.std.proofs.lemmas.Result.{err_from_is_err_and}
+use Rattle.std.proofs.Common.{◌≡◌, ℕ, ◌≤◌, List, [], ◌++◌, ◌∙◌, ap, sym, subst, refl, append_assoc, append-nil, arith, take, length, length-append, length-take, Err}
+use Rattle.std.proofs.lemmas.Result.{err_from_is_err_and, on_ok_weaker, IfErr-weaker}
 use Rattle.bl_shell.specs.declared.stop.Stop.TheVariants as stop
 use Rattle.bl_shell.specs.Causes.{IsSilent}
-use Rattle.bl_shell.specs.Telling.{HasRun, HasBegun}
+use Rattle.bl_shell.specs.Telling.{HasRun, HasBegun, HasFaltered}
 use Rattle.bl_shell.specs.Cuts.{IsKept, Stops}
 use Rattle.bl_shell.specs.Machine.{orders}
 use Rattle.bl_shell.specs.Synced.{CutOf}
 use Rattle.bl_site.specs.Calls.{LeavesOnly}
 use Rattle.bl_site.specs.Disk.{folder_of}
-use Rattle.bl_shell.proofs.OnOk.{on_ok, if_err, each_err}
+use Rattle.bl_shell.proofs.TellLemmas.{each_err}
 use Rattle.bl_shell.proofs.CarriedLemmas.{starts, broken, taken, cut_at_start, cuts_so_far}
 use Rattle.bl_shell.proofs.MomentLemmas.{still}
 use Rattle.bl_store.proofs.OtherLemmas.{others_then}
@@ -34,7 +34,8 @@ reads-init g c = record {
             leaves = still g.S.Site.clock g.S.Site.left_since g.S.Site.disk g.S.Site.told g.S.Site.may_be site _ (λ other. g.met.S.Site.only shown site other sure) (λ cut. g.met.S.Site.only_now shown site cut)
                 (λ cut is. cut_at_start c.cuts_stand.ensures c.batches_make_the_map.ensures began folder c.args.store.now _ _ cut s is);
           })),
-          λ known. refl,
+          (λ known. refl),
+          refl,
         ),
       );
 }
@@ -58,12 +59,18 @@ returns-in_err-count-clause-front g c = λ shown known. each_err c.from_residual
     subst P (i.1.1 known) (broken began folder (g.S.Site.told c.args.site.now) _ i.0 (g.R.Source.left c.reads.script) _ _ _ _ begins (i.1.0 began folder s)))
 
 pub returns-in_err-count-clause-taken : goal.returns-in_err-count-clause-taken
-returns-in_err-count-clause-taken g c = λ shown known. each_err c.from_residual.result _ (λ e reading began folder begins s.
-    let i = c.reads.invariant.eaten shown in
-    (i.0, ap (λ x. i.0 ++ x) (c.in_err-count.ensures.stays known) ∙ i.1.1 known, taken began folder (g.S.Site.told c.args.site.now) _ i.0 _ _ _ _ begins (i.1.0 began folder s)))
+returns-in_err-count-clause-taken g c =
+    let p = err_from_is_err_and c.from_residual.result c.from_residual.ensures.1 in
+    rw p.1 (λ shown known reading began folder begins s.
+    let i = c.reads.invariant.eaten shown in (
+      i.0,
+      ap (λ x. i.0 ++ x) (c.in_err-count.ensures.stays known) ∙ i.1.1 known,
+      (λ long. absurd (cc (long, p.2))),
+      taken began folder (g.S.Site.told c.args.site.now) _ c.stores_stand.ensures c.batches_make_the_map.ensures i.0 _ _ _ _ begins (i.1.0 began folder s),
+    ))
 
 pub returns-then-count-eq0-clause-ok : goal.returns-then-count-eq0-clause-ok
-returns-then-count-eq0-clause-ok g c = λ shown known. on_ok c.finish.result _ _ (λ ok began folder begins s.
+returns-then-count-eq0-clause-ok g c = λ shown known. on_ok_weaker c.finish.result (λ ok began folder begins s.
     let i = c.reads.invariant.eaten shown in
     let none : g.R.Source.left c.reads.script ≡ [] = c.in_ok-count.ensures.end known (omega (arith, c.requires.some)) c.if-count-eq0.true in
     let all : i.0 ≡ g.R.Source.left c.args.script.now = sym (append-nil i.0) ∙ ap (λ x. i.0 ++ x) (sym none) ∙ i.1.1 known in
@@ -72,7 +79,7 @@ returns-then-count-eq0-clause-ok g c = λ shown known. on_ok c.finish.result _ _
     (c.finish.ensures.ok shown)
 
 pub returns-then-count-eq0-clause-front : goal.returns-then-count-eq0-clause-front
-returns-then-count-eq0-clause-front g c = λ shown known. if_err c.finish.result _ _ (λ e front silent began folder begins s.
+returns-then-count-eq0-clause-front g c = λ shown known. IfErr-weaker c.finish.result _ _ (λ e front silent began folder begins s.
     let i = c.reads.invariant.eaten shown in
     let none : g.R.Source.left c.reads.script ≡ [] = c.in_ok-count.ensures.end known (omega (arith, c.requires.some)) c.if-count-eq0.true in
     let all : i.0 ≡ g.R.Source.left c.args.script.now = sym (append-nil i.0) ∙ ap (λ x. i.0 ++ x) (sym none) ∙ i.1.1 known in
@@ -86,7 +93,7 @@ returns-then-count-eq0-clause-full g c = λ shown known limit is began folder be
     let none : g.R.Source.left c.reads.script ≡ [] = c.in_ok-count.ensures.end known (omega (arith, c.requires.some)) c.if-count-eq0.true in
     let all : i.0 ≡ g.R.Source.left c.args.script.now = sym (append-nil i.0) ∙ ap (λ x. i.0 ++ x) (sym none) ∙ i.1.1 known in
     let f = c.finish.ensures.full shown limit is began folder (g.S.Site.told c.args.site.now) i.0 c.args.site.now begins (i.1.0 began folder s) in
-    let P : List ℕ → Type 0 = λ x. Stops folder x (g.S.Site.told c.args.site.now) (g.S.Site.told c.finish.new.site) limit (LeavesOnly g.S.Site.clock g.S.Site.left_since c.args.site.now c.finish.new.site) in
+    let P : List ℕ → Type 0 = λ x. Stops folder (folder_of (g.S.Site.disk c.finish.new.site)) x (g.S.Site.told c.args.site.now) (g.S.Site.told c.finish.new.site) limit (LeavesOnly g.S.Site.clock g.S.Site.left_since c.args.site.now c.finish.new.site) in
     subst P all f
 
 pub returns-in_err-feed-clause-front : goal.returns-in_err-feed-clause-front
@@ -106,7 +113,7 @@ returns-in_err-feed-clause-full g c = λ shown known limit is began folder begin
     let e : c.in_err-feed.field-0.0 ≡ stop.Full limit = cc (is, p.1, p.2) in
     let i = c.reads.invariant.eaten shown in
     let f = c.in_err-feed.ensures.full shown limit (ap Err e) began folder (g.S.Site.told c.args.site.now) i.0 (g.R.Source.left c.read.new.self) c.args.site.now begins (i.1.0 began folder s) in
-    let P : List ℕ → Type 0 = λ x. Stops folder x (g.S.Site.told c.args.site.now) (g.S.Site.told c.feed.new.site) limit (LeavesOnly g.S.Site.clock g.S.Site.left_since c.args.site.now c.feed.new.site) in
+    let P : List ℕ → Type 0 = λ x. Stops folder (folder_of (g.S.Site.disk c.feed.new.site)) x (g.S.Site.told c.args.site.now) (g.S.Site.told c.feed.new.site) limit (LeavesOnly g.S.Site.clock g.S.Site.left_since c.args.site.now c.feed.new.site) in
     subst P (ap (λ x. i.0 ++ x) (sym (c.in_ok-count.ensures.bytes known)) ∙ i.1.1 known) f
 
 pub reads-preserved : goal.reads-preserved
@@ -127,7 +134,8 @@ reads-preserved g c =
             i.0 ++ piece,
             (
               (λ began folder s. c.in_ok-feed.ensures.ok shown began folder (g.S.Site.told c.args.site.now) i.0 c.args.site.now (i.1.0 began folder s)),
-              λ known. append_assoc i.0 piece (g.R.Source.left c.read.new.self) ∙ ap (λ x. i.0 ++ x) (sym (c.in_ok-count.ensures.bytes known)) ∙ i.1.1 known,
+              (λ known. append_assoc i.0 piece (g.R.Source.left c.read.new.self) ∙ ap (λ x. i.0 ++ x) (sym (c.in_ok-count.ensures.bytes known)) ∙ i.1.1 known),
+              omega (arith, i.1.2, length-append i.0 piece, length-take c.in_ok-count.count c.read.new.into, c.in_ok-count.ensures.bound),
             ),
           );
     }
@@ -141,7 +149,7 @@ returns-clause-front g c = λ shown known silent began folder begins s.
 pub returns-clause-taken : goal.returns-clause-taken
 returns-clause-taken g c = λ shown known reading began folder begins s.
     let i = c.reads.invariant.eaten shown in
-    (i.0, i.1.1 known, taken began folder (g.S.Site.told c.args.site.now) _ i.0 _ _ _ _ begins (i.1.0 began folder s))
+    (i.0, i.1.1 known, (λ long. omega (arith, i.1.2, c.reads-test.false)), taken began folder (g.S.Site.told c.args.site.now) _ c.stores_stand.ensures c.batches_make_the_map.ensures i.0 _ _ _ _ begins (i.1.0 began folder s))
 
 pub returns-in_err-count-clause-cuts : goal.returns-in_err-count-clause-cuts
 returns-in_err-count-clause-cuts g c = λ shown known began folder s.
@@ -156,7 +164,7 @@ returns-clause-cuts g c = λ shown known began folder s.
     subst P (i.1.1 known) (cuts_so_far g.S.Site.certain g.S.Site.clock g.S.Site.left_since began folder (g.S.Site.told c.args.site.now) i.0 _ _ _ _ c.args.site.now c.reads.site (i.1.0 began folder s) (g.R.Source.left c.reads.script))
 
 pub returns-then-count-eq0-clause-kept : goal.returns-then-count-eq0-clause-kept
-returns-then-count-eq0-clause-kept g c = λ shown known. on_ok c.finish.result _ _ (λ ok began folder begins s.
+returns-then-count-eq0-clause-kept g c = λ shown known. on_ok_weaker c.finish.result (λ ok began folder begins s.
     let i = c.reads.invariant.eaten shown in
     let none : g.R.Source.left c.reads.script ≡ [] = c.in_ok-count.ensures.end known (omega (arith, c.requires.some)) c.if-count-eq0.true in
     let all : i.0 ≡ g.R.Source.left c.args.script.now = sym (append-nil i.0) ∙ ap (λ x. i.0 ++ x) (sym none) ∙ i.1.1 known in
@@ -185,3 +193,20 @@ returns-then-count-eq0-clause-others g c = λ shown. others_then _ _ _ (c.reads.
 
 pub returns-in_err-feed-clause-others : goal.returns-in_err-feed-clause-others
 returns-in_err-feed-clause-others g c = λ shown. others_then _ _ _ (c.reads.invariant.others shown) (c.feed.ensures.others shown)
+
+pub returns-then-count-eq0-clause-faltered : goal.returns-then-count-eq0-clause-faltered
+returns-then-count-eq0-clause-faltered g c = λ shown known is began folder begins s.
+    let i = c.reads.invariant.eaten shown in
+    let none : g.R.Source.left c.reads.script ≡ [] = c.in_ok-count.ensures.end known (omega (arith, c.requires.some)) c.if-count-eq0.true in
+    let all : i.0 ≡ g.R.Source.left c.args.script.now = sym (append-nil i.0) ∙ ap (λ x. i.0 ++ x) (sym none) ∙ i.1.1 known in
+    let P : List ℕ → Type 0 = λ x. HasFaltered folder (folder_of (g.S.Site.disk c.finish.new.site)) x (g.S.Site.told c.args.site.now) (g.S.Site.told c.finish.new.site) in
+    subst P all (c.finish.ensures.faltered shown is began folder (g.S.Site.told c.args.site.now) i.0 c.args.site.now begins (i.1.0 began folder s))
+
+pub returns-in_err-feed-clause-faltered : goal.returns-in_err-feed-clause-faltered
+returns-in_err-feed-clause-faltered g c = λ shown known is began folder begins s.
+    let p = err_from_is_err_and c.from_residual-in_err-feed.result c.from_residual-in_err-feed.ensures.1 in
+    let e : c.in_err-feed.field-0.0 ≡ stop.Tell = cc (is, p.1, p.2) in
+    let i = c.reads.invariant.eaten shown in
+    let P : List ℕ → Type 0 = λ x. HasFaltered folder (folder_of (g.S.Site.disk c.feed.new.site)) x (g.S.Site.told c.args.site.now) (g.S.Site.told c.feed.new.site) in
+    subst P (ap (λ x. i.0 ++ x) (sym (c.in_ok-count.ensures.bytes known)) ∙ i.1.1 known)
+    (c.in_err-feed.ensures.faltered shown (ap Err e) began folder (g.S.Site.told c.args.site.now) i.0 (g.R.Source.left c.read.new.self) c.args.site.now begins (i.1.0 began folder s))

@@ -1,13 +1,16 @@
-use Rattle.std.proofs.Common.{ℕ, List, [], refl, sym, subst, inl, inr, ap, ◌∙◌, Err}
-use Rattle.bl_site.specs.Disk.{Disk, folder_of}
+use Rattle.std.proofs.Common.{◌≡◌, ◌++◌, ℕ, List, [], refl, sym, subst, inl, inr, ap, ◌∙◌, Err}
+use Rattle.bl_site.specs.Disk.{Name, Folder, Disk, folder_of}
+use Rattle.bl_site.specs.Calls.{LeavesOnly}
 use Rattle.bl_site.proofs.Moments.{widened}
 use Rattle.bl_store.specs.Cuts.{AreWhole}
+use Rattle.bl_store.specs.Damage.{IsDamaged}
 use Rattle.bl_store.specs.Stored.{HasNextLog}
-use Rattle.bl_shell.specs.Cuts.{CutPast, CutStands, FromSomeMoment}
+use Rattle.bl_shell.specs.Cuts.{CutPast, CutStands, FromSomeMoment, StopsRun}
 use Rattle.bl_shell.specs.Machine.{orders}
-use Rattle.bl_shell.specs.Telling.{HasTaken}
+use Rattle.bl_shell.specs.Telling.{HasTaken, HasFaltered, IsFull}
+use Rattle.bl_shell.specs.declared.stop.Stop.TheVariants as stop
 use Rattle.bl_shell.proofs.CrashLemmas.{ended, ended_behind, unended_behind, unopened_behind, has_stopped, past_ended, past_unended, no_error_yet, reads_since, stop_is_full, untouched}
-use Rattle.bl_shell.proofs.TopLemmas.{ended_front, only_made, stop_is_reading, words_are_not_past, stop_is_corrupt, corrupt_told, at_the_limit, not_done, refused}
+use Rattle.bl_shell.proofs.TopLemmas.{ended_front, untold, only_made, stop_is_long, stop_is_reading, words_are_not_past, stop_is_corrupt, corrupt_told, at_the_limit, not_done, refused}
 use Rattle.bl_shell.proofs.WholeLemmas.{whole_disk}
 use Rattle.bl_store.proofs.OtherLemmas.{others_same, others_then}
 use Rattle.bl_shell.proofs.top.run.Given as given
@@ -34,15 +37,42 @@ pub returns-in-Err-clause-taken : goal.returns-in-Err-clause-taken
 returns-in-Err-clause-taken g c = λ shown known brought.
     let s = stop_is_reading c.in-Err.stop c.end.result c.end.ensures.ends brought in
     let t = c.in-Err.ensures.taken shown known s.0 in
-    let P : List ℕ → Type 0 = λ told. HasTaken (folder_of (g.S.Site.disk c.args.site.now)) t.0 (g.S.Site.told c.args.site.now) told in
-    (t.0, t.1, subst P (sym (ap g.S.Site.told (c.end.ensures.silent s.1).1)) t.2)
+    let P : g.row.S.Denot → Type 0 = λ site. HasTaken (folder_of (g.S.Site.disk c.args.site.now)) (folder_of (g.S.Site.disk site)) t.0 (g.S.Site.told c.args.site.now) (g.S.Site.told site) in
+    (t.0, t.1, (λ long. t.2 (stop_is_long c.in-Err.stop c.end.result c.end.ensures.ends long)), subst P (sym (c.end.ensures.silent s.1).1) t.3)
+
+-- a last line leaves the folder as it is
+same_folder : (g : given.Over) (c : goal.After-end g) → g.S.Site.shows → folder_of (g.S.Site.disk c.run_on.new.site) ≡ folder_of (g.S.Site.disk c.end.new.site)
+same_folder g c shown = sym (ap folder_of (c.end.ensures.stays shown))
+
+damaged_at : (g : given.Over) (c : goal.After-end g) → g.S.Site.shows → (name : Name) (place : ℕ) → c.in-Err.stop ≡ stop.Corrupt name place
+    → IsDamaged (folder_of (g.S.Site.disk c.args.site.now)) name place × (g.S.Site.told c.run_on.new.site ≡ g.S.Site.told c.args.site.now) × (folder_of (g.S.Site.disk c.end.new.site) ≡ folder_of (g.S.Site.disk c.args.site.now))
+damaged_at g c shown name place is = let d = c.in-Err.ensures.corrupt shown name place (ap Err is) in (d.0, d.1, sym (same_folder g c shown) ∙ d.2)
+
+full_at : (g : given.Over) (c : goal.After-end g) → g.S.Site.shows → g.R.Source.shows → (limit : ℕ) → c.in-Err.stop ≡ stop.Full limit
+    → (replies : List ℕ) × IsFull (folder_of (g.S.Site.disk c.args.site.now)) (folder_of (g.S.Site.disk c.end.new.site)) (g.R.Source.left c.args.script.now) replies limit
+    × (g.S.Site.told c.run_on.new.site ≡ g.S.Site.told c.args.site.now ++ replies)
+full_at g c shown known limit is =
+    let f = c.in-Err.ensures.full shown known limit (ap Err is) in
+    let P : Folder → Type 0 = λ after. IsFull (folder_of (g.S.Site.disk c.args.site.now)) after (g.R.Source.left c.args.script.now) f.replies limit in
+    (f.replies, subst P (same_folder g c shown) f.full, f.told_is)
+
+faltered_at : (g : given.Over) (c : goal.After-end g) → g.S.Site.shows → g.R.Source.shows → c.in-Err.stop ≡ stop.Tell
+    → HasFaltered (folder_of (g.S.Site.disk c.args.site.now)) (folder_of (g.S.Site.disk c.end.new.site)) (g.R.Source.left c.args.script.now) (g.S.Site.told c.args.site.now) (g.S.Site.told c.run_on.new.site)
+faltered_at g c shown known is =
+    let P : Folder → Type 0 = λ after. HasFaltered (folder_of (g.S.Site.disk c.args.site.now)) after (g.R.Source.left c.args.script.now) (g.S.Site.told c.args.site.now) (g.S.Site.told c.run_on.new.site) in
+    subst P (same_folder g c shown) (c.in-Err.ensures.faltered shown known (ap Err is))
 
 pub returns-in-Err-clause-front : goal.returns-in-Err-clause-front
 returns-in-Err-clause-front g c = λ shown known short.
-    ended_front (folder_of (g.S.Site.disk c.args.site.now)) (g.R.Source.left c.args.script.now) (g.S.Site.told c.args.site.now) (g.S.Site.told c.run_on.new.site) (g.S.Site.told c.end.new.site) c.end.result c.in-Err.stop
+    ended_front (folder_of (g.S.Site.disk c.args.site.now)) (folder_of (g.S.Site.disk c.end.new.site)) (g.R.Source.left c.args.script.now) (g.S.Site.told c.args.site.now) (g.S.Site.told c.run_on.new.site) (g.S.Site.told c.end.new.site) c.end.result c.in-Err.stop
     (λ silent. ap g.S.Site.told (c.end.ensures.silent silent).1) (c.in-Err.ensures.front shown known)
-    (λ name place is. let d = c.in-Err.ensures.corrupt shown name place (ap Err is) in (d.0, d.1)) (c.end.ensures.corrupt shown)
-    (λ limit is. let f = c.in-Err.ensures.full shown known limit (ap Err is) in (f.replies, f.full, f.told_is)) (c.end.ensures.full shown) short
+    (damaged_at g c shown) (c.end.ensures.corrupt shown) (full_at g c shown known) (c.end.ensures.full shown) short
+
+pub returns-in-Err-clause-faltered : goal.returns-in-Err-clause-faltered
+returns-in-Err-clause-faltered g c = λ shown known is.
+    untold (folder_of (g.S.Site.disk c.args.site.now)) (folder_of (g.S.Site.disk c.end.new.site)) (g.R.Source.left c.args.script.now) (g.S.Site.told c.args.site.now) (g.S.Site.told c.run_on.new.site) (g.S.Site.told c.end.new.site)
+    c.end.result c.in-Err.stop is (λ silent. let e = c.end.ensures.silent silent in (e.0, ap g.S.Site.told e.1)) (faltered_at g c shown known)
+    (damaged_at g c shown) (c.end.ensures.corrupt shown) (full_at g c shown known) (c.end.ensures.full shown)
 
 pub returns-in-Err-clause-damaged : goal.returns-in-Err-clause-damaged
 returns-in-Err-clause-damaged g c = λ shown name place damaged.
@@ -66,8 +96,10 @@ pub returns-in-Err-clause-full : goal.returns-in-Err-clause-full
 returns-in-Err-clause-full g c = λ shown known is.
     let mid = c.run_on.new.site in
     let s = stop_is_full c.in-Err.stop c.end.result c.end.ensures.ends is in
-    let f = c.in-Err.ensures.full shown known s.0 (ap Err s.1) in
-    has_stopped c.end.result _ _ _ _ _ _ s.0 _ _ is f (c.end.ensures.full shown s.0 s.1)
+    let P : Folder → Type 0 = λ after. StopsRun (g.S.Site.may_be c.args.site.now) (folder_of (g.S.Site.disk c.args.site.now)) after (g.R.Source.left c.args.script.now) (g.S.Site.told c.args.site.now) (g.S.Site.told mid) s.0
+    (LeavesOnly g.S.Site.clock g.S.Site.left_since c.args.site.now mid) in
+    let f = subst P (same_folder g c shown) (c.in-Err.ensures.full shown known s.0 (ap Err s.1)) in
+    has_stopped c.end.result _ _ _ _ _ _ _ s.0 _ _ is f (c.end.ensures.full shown s.0 s.1)
     (ended g.S.Site.clock g.S.Site.left_since g.S.Site.told g.S.Site.may_be c.args.site.now mid c.end.new.site _ _ f.cuts (c.end.ensures.cuts shown) (λ t cut. g.met.S.Site.counts_now shown mid t cut))
 
 pub returns-then-not-is_empty-clause-past : goal.returns-then-not-is_empty-clause-past

@@ -1,16 +1,15 @@
 use Rattle.std.proofs.Common.{◌≡◌, ℕ, List, [], ◌∙◌, ap, sym, subst, refl, inl, inr, append-nil, arith, Err}
-use Rattle.std.proofs.lemmas.Result.{err_from_is_err_and}
+use Rattle.std.proofs.lemmas.Result.{err_from_is_err_and, on_ok_weaker, IfErr-weaker}
 use Rattle.bl_site.specs.Disk.{folder_of}
 use Rattle.bl_site.proofs.Moments.{widened, cut_of_only}
 use Rattle.bl_store.specs.declared.error.StoreErr.TheVariants as store
-use Rattle.bl_store.specs.Causes.{IsRefusal}
+use Rattle.bl_store.specs.Causes.{IsUntouched}
 use Rattle.bl_shell.specs.Causes.{IsOpening, stop_of_store}
 use Rattle.bl_shell.specs.Cuts.{CutPast, FromSomeMoment, StopsBeforeScript}
 use Rattle.bl_shell.specs.Machine.{orders}
-use Rattle.bl_shell.specs.Telling.{HasRun, HasTaken, HasBegun}
+use Rattle.bl_shell.specs.Telling.{HasRun, HasTaken, HasBegun, HasFaltered}
 use Rattle.bl_shell.proofs.CrashLemmas.{failed_behind, opened_behind, unopened_behind, opened_now, opened_past, opened_then, opened_stops, unopened}
-use Rattle.bl_shell.proofs.OnOk.{on_ok, if_err}
-use Rattle.bl_shell.proofs.TopLemmas.{began_of, not_opened, unasked, begins_open, starts_open, stands_open, opening_stops, stop_full, stop_corrupt}
+use Rattle.bl_shell.proofs.TopLemmas.{began_of, not_opened, unasked, begins_open, starts_open, stands_open, opening_stops, stop_full, stop_corrupt, stop_not_tell}
 use Rattle.bl_store.proofs.OtherLemmas.{others_then, same_no_next}
 use Rattle.bl_shell.proofs.WholeLemmas.{whole_disk}
 use Rattle.bl_shell.proofs.top.run_on.Given as given
@@ -23,7 +22,7 @@ returns-in_err-store-clause-full g c = λ shown known limit is.
     let f = c.in_err-store.ensures.full shown limit (ap Err e) in
     record {
       replies = [];
-      full = inl (f.1, f.2, refl, f.0);
+      full = inl (record { greatest = f.1; batches = f.2.0; last = f.2.1.0; stands = f.2.1.1; same = c.in_err-store.ensures.same shown (subst IsUntouched (sym e) tt); none_told = refl; limit_is = f.0 });
       told_is = c.in_err-store.ensures.told shown ∙ sym (append-nil (g.S.Site.told c.args.site.now));
       cuts = widened g.S.Site.clock g.S.Site.left_since c.args.site.now c.open_site.new.site _ _ (λ cut b. inl b) (c.open_site.ensures.before shown);
     }
@@ -32,7 +31,7 @@ pub returns-in_err-store-clause-corrupt : goal.returns-in_err-store-clause-corru
 returns-in_err-store-clause-corrupt g c = λ shown name place is.
     let p = err_from_is_err_and c.from_residual-in_err-store.result c.from_residual-in_err-store.ensures.1 in
     let e : c.in_err-store.field-0.0 ≡ store.Corrupt name place = stop_corrupt c.in_err-store.field-0.0 name place (cc (is, p.1, p.2)) in
-    (c.in_err-store.ensures.corrupt shown name place (ap Err e), c.in_err-store.ensures.told shown, c.in_err-store.ensures.same shown (subst IsRefusal (sym e) tt))
+    (c.in_err-store.ensures.corrupt shown name place (ap Err e), c.in_err-store.ensures.told shown, c.in_err-store.ensures.same shown (subst IsUntouched (sym e) tt))
 
 pub returns-in_err-store-clause-damaged : goal.returns-in_err-store-clause-damaged
 returns-in_err-store-clause-damaged g c =
@@ -56,7 +55,7 @@ returns-clause-done g c = λ shown known.
     let folder = folder_of (g.S.Site.disk c.args.site.now) in
     let disk = g.S.Site.disk c.open_site.new.site in
     let P : List ℕ → Type 0 = λ t. HasRun folder (folder_of (g.S.Site.disk c.serve.new.site)) (g.R.Source.left c.args.script.now) t (g.S.Site.told c.serve.new.site) in
-    on_ok c.serve.result _ _ (λ ok. subst P (c.in_ok-store.ensures.told shown)
+    on_ok_weaker c.serve.result (λ ok. subst P (c.in_ok-store.ensures.told shown)
     (ok (began_of folder c.in_ok-store.store disk o) folder (begins_open folder c.in_ok-store.store disk o c.batches_make_the_map.ensures) (starts_open folder c.in_ok-store.store disk o c.in_ok-store.ensures.usable)))
     (c.serve.ensures.ok shown known)
 
@@ -65,10 +64,10 @@ returns-clause-taken g c = λ shown known.
     let o = c.in_ok-store.ensures.opened shown in
     let folder = folder_of (g.S.Site.disk c.args.site.now) in
     let disk = g.S.Site.disk c.open_site.new.site in
-    if_err c.serve.result _ _ (λ e taken reading.
+    IfErr-weaker c.serve.result _ _ (λ e taken reading.
     let t = taken reading (began_of folder c.in_ok-store.store disk o) folder (begins_open folder c.in_ok-store.store disk o c.batches_make_the_map.ensures) (starts_open folder c.in_ok-store.store disk o c.in_ok-store.ensures.usable) in
-    let P : List ℕ → Type 0 = λ told. HasTaken folder t.0 told (g.S.Site.told c.serve.new.site) in
-    (t.0, t.1, subst P (c.in_ok-store.ensures.told shown) t.2))
+    let P : List ℕ → Type 0 = λ told. HasTaken folder (folder_of (g.S.Site.disk c.serve.new.site)) t.0 told (g.S.Site.told c.serve.new.site) in
+    (t.0, t.1, t.2, subst P (c.in_ok-store.ensures.told shown) t.3))
     (c.serve.ensures.taken shown known)
 
 pub returns-clause-front : goal.returns-clause-front
@@ -77,7 +76,7 @@ returns-clause-front g c = λ shown known.
     let folder = folder_of (g.S.Site.disk c.args.site.now) in
     let disk = g.S.Site.disk c.open_site.new.site in
     let P : List ℕ → Type 0 = λ told. HasBegun folder (g.R.Source.left c.args.script.now) told (g.S.Site.told c.serve.new.site) in
-    if_err c.serve.result _ _ (λ e front silent. inr (subst P (c.in_ok-store.ensures.told shown)
+    IfErr-weaker c.serve.result _ _ (λ e front silent. inr (subst P (c.in_ok-store.ensures.told shown)
     (front silent (began_of folder c.in_ok-store.store disk o) folder (begins_open folder c.in_ok-store.store disk o c.batches_make_the_map.ensures) (starts_open folder c.in_ok-store.store disk o c.in_ok-store.ensures.usable))))
     (c.serve.ensures.front shown known)
 
@@ -86,7 +85,7 @@ returns-clause-full g c = λ shown known limit is.
     let o = c.in_ok-store.ensures.opened shown in
     let folder = folder_of (g.S.Site.disk c.args.site.now) in
     let disk = g.S.Site.disk c.open_site.new.site in
-    opened_stops g.S.Site.clock g.S.Site.left_since g.S.Site.told g.S.Site.may_be c.args.site.now c.open_site.new.site c.serve.new.site folder (g.R.Source.left c.args.script.now) limit (c.open_site.ensures.before shown)
+    opened_stops g.S.Site.clock g.S.Site.left_since g.S.Site.told g.S.Site.may_be c.args.site.now c.open_site.new.site c.serve.new.site folder _ (g.R.Source.left c.args.script.now) limit (c.open_site.ensures.before shown)
     (c.serve.ensures.full shown known limit is (began_of folder c.in_ok-store.store disk o) folder (begins_open folder c.in_ok-store.store disk o c.batches_make_the_map.ensures) (starts_open folder c.in_ok-store.store disk o c.in_ok-store.ensures.usable))
     (c.in_ok-store.ensures.told shown)
 
@@ -95,7 +94,7 @@ returns-clause-kept g c = λ shown known.
     let o = c.in_ok-store.ensures.opened shown in
     let folder = folder_of (g.S.Site.disk c.args.site.now) in
     let disk = g.S.Site.disk c.open_site.new.site in
-    on_ok c.serve.result _ _ (λ ok. ok (began_of folder c.in_ok-store.store disk o) folder (begins_open folder c.in_ok-store.store disk o c.batches_make_the_map.ensures)
+    on_ok_weaker c.serve.result (λ ok. ok (began_of folder c.in_ok-store.store disk o) folder (begins_open folder c.in_ok-store.store disk o c.batches_make_the_map.ensures)
     (starts_open folder c.in_ok-store.store disk o c.in_ok-store.ensures.usable)) (c.serve.ensures.kept shown known)
 
 pub returns-clause-cuts : goal.returns-clause-cuts
@@ -205,3 +204,17 @@ returns-clause-behind g c = λ shown known sure.
     opened_behind site.clock site.left_since site.told site.may_be c.cuts_stand.ensures c.batches_make_the_map.ensures c.args.site.now c.open_site.new.site c.serve.new.site folder _ began
     (begins_open folder c.in_ok-store.store disk o c.batches_make_the_map.ensures) (c.open_site.ensures.behind shown sure)
     (c.serve.ensures.cuts shown known began folder (starts_open folder c.in_ok-store.store disk o c.in_ok-store.ensures.usable)) (c.in_ok-store.ensures.told shown)
+
+pub returns-in_err-store-clause-faltered : goal.returns-in_err-store-clause-faltered
+returns-in_err-store-clause-faltered g c = λ shown known is.
+    let p = err_from_is_err_and c.from_residual-in_err-store.result c.from_residual-in_err-store.ensures.1 in
+    absurd (stop_not_tell c.in_err-store.field-0.0 (cc (is, p.1, p.2)))
+
+pub returns-clause-faltered : goal.returns-clause-faltered
+returns-clause-faltered g c = λ shown known is.
+    let o = c.in_ok-store.ensures.opened shown in
+    let folder = folder_of (g.S.Site.disk c.args.site.now) in
+    let disk = g.S.Site.disk c.open_site.new.site in
+    let P : List ℕ → Type 0 = λ told. HasFaltered folder (folder_of (g.S.Site.disk c.serve.new.site)) (g.R.Source.left c.args.script.now) told (g.S.Site.told c.serve.new.site) in
+    subst P (c.in_ok-store.ensures.told shown)
+    (c.serve.ensures.faltered shown known is (began_of folder c.in_ok-store.store disk o) folder (begins_open folder c.in_ok-store.store disk o c.batches_make_the_map.ensures) (starts_open folder c.in_ok-store.store disk o c.in_ok-store.ensures.usable))

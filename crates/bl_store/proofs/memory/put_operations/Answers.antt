@@ -1,16 +1,18 @@
-use Rattle.std.proofs.Common.{◌<◌, length, ap, ◌∙◌, arith}
-use Rattle.bl_entry.specs.Revisions.{after_put}
-use Rattle.bl_store.proofs.OperationLemmas.{put_one, none_there}
+use Rattle.std.proofs.Common.{ap, ◌∙◌, arith}
+use Rattle.std.proofs.lemmas.List.{take_all}
+use Rattle.bl_entry.specs.Revisions.{after_put, after_operations}
+use Rattle.bl_entry.specs.declared.batch.Operation.{Operation}
+use Rattle.bl_store.proofs.OperationLemmas.{put_one}
 use Rattle.bl_store.specs.Stored.{map_in}
 use Rattle.bl_store.proofs.memory.put_operations.Goals as goal
 
-pub unreachable-requires : goal.unreachable-requires
-unreachable-requires c =
-    let lt : c.loop-place.place < length c.args.batch.now = omega (arith, c.loop-place-test.true, c.count-place-end.ensures) in
-    none_there c.args.batch.now c.loop-place.place lt c.in_default.ensures
+pub loop-operation-preserved : goal.loop-operation-preserved
+loop-operation-preserved c =
+    let o : Operation = c.operation-item.result in
+    c.in_ok-put_operation.ensures.put ∙ ap (after_put o.key o.put) c.loop-operation.invariant
+    ∙ put_one c.operations-operation-items.result.now c.loop-operation.operation-index o (map_in c.args.map.now.entries) (omega (arith, c.loop-operation-test.true)) c.operation-item.is
 
-pub loop-place-preserved : goal.loop-place-preserved
-loop-place-preserved c =
-    let lt : c.loop-place.place < length c.args.batch.now = omega (arith, c.loop-place-test.true, c.count-place-end.ensures) in
-    c.in_ok-put_operation.ensures.put ∙ ap (after_put c.in-Some.user.now _) c.loop-place.invariant
-    ∙ put_one c.args.batch.now c.loop-place.place c.in-Some.user.now _ (map_in c.args.map.now.entries) lt c.in-Some.ensures c.value_at.ensures
+pub returns-clause-put : goal.returns-clause-put
+returns-clause-put c =
+    let m = map_in c.args.map.now.entries in
+    c.loop-operation.invariant ∙ ap (λ ops. after_operations ops m) (take_all c.loop-operation.operation-index c.operations-operation-items.result.now (omega (arith, c.loop-operation-test.false)) ∙ c.operations-operation-items.ensures.value)

@@ -1,14 +1,13 @@
-use Rattle.std.proofs.Common.{◌≡◌, ◌+◌, ◌-◌, ◌<◌, ◌∷◌, get_or, drop, length, ap, sym, ◌∙◌, subst, arith, inl, inr, Err, refl}
+use Rattle.std.proofs.Common.{◌≡◌, ◌+◌, ◌-◌, ◌<◌, ◌∷◌, get_or, drop, length, ap, sym, subst, arith, inl, inr, Err, refl}
 use Rattle.std.proofs.lemmas.Result.{err_from_is_err_and}
-use Rattle.bl_site.specs.Disk.{Folder, MayLeave, folder_of}
+use Rattle.bl_site.specs.Disk.{Folder, folder_of}
 use Rattle.bl_store.specs.declared.error.StoreErr.TheVariants.{Corrupt}
 use Rattle.bl_store.specs.Stored.{map_in}
 use Rattle.bl_store.specs.Listing.{AreLogsAbove}
 use Rattle.bl_store.specs.Replaying.{HasReplayed}
-use Rattle.bl_store.proofs.FolderLemmas.{keeps_same, keeps_then}
+use Rattle.bl_site.proofs.Quiet.{reads_nothing, reads_on}
 use Rattle.bl_store.proofs.NumberLemmas.{passes}
 use Rattle.bl_store.proofs.ReplayLemmas.{none_replayed, up_to, all_replayed, replayed_at, left_now, none_left}
-use Rattle.bl_store.proofs.CutLemmas.{no_call, then_left}
 use Rattle.bl_store.proofs.open.replay_logs.Goals as goal
 
 pub loop-number-init : goal.loop-number-init
@@ -17,11 +16,7 @@ loop-number-init g c = record {
   there = λ shown. inl refl;
   left = λ shown. c.requires.logs shown;
   replayed = λ shown. none_replayed (folder_of (g.S.Site.disk c.args.site.now)) (map_in c.new.result.entries) (ap map_in c.new.ensures.empty);
-  stays = λ shown. keeps_same c.args.site.now;
-  cuts = λ shown. no_call g.S.Site.clock g.S.Site.left_since g.S.Site.told g.S.Site.may_be c.args.site.now (g.met.S.Site.only_now shown c.args.site.now);
-  told = λ shown. refl;
-  later = omega arith;
-  tell_faults = refl;
+  quiet = reads_nothing g.S.Site c.args.site.now;
 }
 
 pub returns-in_err-replay_log-clause-corrupt : goal.returns-in_err-replay_log-clause-corrupt
@@ -30,7 +25,7 @@ returns-in_err-replay_log-clause-corrupt g c = λ shown name place is.
     let i = c.loop-number.invariant in
     let number = get_or c.args.numbers.now c.loop-number.number-index 0 in
     let folder = folder_of (g.S.Site.disk c.args.site.now) in
-    let same : folder_of (g.S.Site.disk c.loop-number.site) ≡ folder = ap folder_of (i.stays shown).same in
+    let same : folder_of (g.S.Site.disk c.loop-number.site) ≡ folder = ap folder_of (i.quiet.stays shown).same in
     let left = left_now c.args.numbers.now c.loop-number.number-index c.loop-number.memory.greatest folder (omega (arith, c.loop-number-test.true)) (i.left shown) in
     let e : c.in_err-replay_log.field-0.0 ≡ Corrupt name place = cc (is, p.1, p.2) in
     let at = replayed_at folder _ number place name (map_in c.loop-number.memory.map.entries) c.loop-number.memory.last same
@@ -50,18 +45,11 @@ loop-number-preserved g c =
       there = λ shown. rw great (inr ((left shown).each.0.1, (left shown).each.0.2));
       left = λ shown. rw great (passes c.loop-number.memory.greatest number _ folder (left shown));
       replayed = λ shown.
-          let same : folder_of (g.S.Site.disk c.loop-number.site) ≡ folder = ap folder_of (i.stays shown).same in
+          let same : folder_of (g.S.Site.disk c.loop-number.site) ≡ folder = ap folder_of (i.quiet.stays shown).same in
           let P : Folder → Type 0 = λ f. HasReplayed f number (map_in c.replay_log.new.memory.map.entries) c.replay_log.new.memory.last in
           rw great (subst P same (c.in_ok-replay_log.ensures.replayed shown (let Q : Folder → Type 0 = λ f. HasReplayed f (number - 1) (map_in c.loop-number.memory.map.entries) c.loop-number.memory.last in
           subst Q (sym same) (up_to folder c.loop-number.memory.greatest number _ (map_in c.loop-number.memory.map.entries) c.loop-number.memory.last (left shown) (i.replayed shown)))));
-      stays = λ shown. keeps_then c.args.site.now c.loop-number.site c.replay_log.new.site (i.stays shown) (c.replay_log.ensures.stays shown);
-      cuts = λ shown.
-          let site = g.S.Site in
-          then_left site.clock site.left_since site.told site.may_be c.args.site.now c.loop-number.site c.replay_log.new.site (MayLeave (site.may_be c.args.site.now) (site.told c.args.site.now))
-          (g.met.S.Site.counts_now shown c.loop-number.site) (i.cuts shown) (c.replay_log.ensures.cuts shown);
-      told = λ shown. c.replay_log.ensures.told shown ∙ i.told shown;
-      later = omega (arith, c.replay_log.ensures.later, i.later);
-      tell_faults = c.replay_log.ensures.tell_faults ∙ i.tell_faults;
+      quiet = reads_on g.S.Site c.args.site.now c.loop-number.site c.replay_log.new.site i.quiet c.replay_log.ensures.quiet;
     }
 
 pub returns-clause-replayed : goal.returns-clause-replayed
@@ -70,3 +58,6 @@ returns-clause-replayed g c = λ shown.
     let folder = folder_of (g.S.Site.disk c.args.site.now) in
     all_replayed folder c.loop-number.memory.greatest (map_in c.loop-number.memory.map.entries) c.loop-number.memory.last (i.there shown)
     (none_left c.args.numbers.now c.loop-number.number-index c.loop-number.memory.greatest folder (omega (arith, c.loop-number-test.false)) (i.left shown)) (i.replayed shown)
+
+pub returns-in_err-replay_log-clause-quiet : goal.returns-in_err-replay_log-clause-quiet
+returns-in_err-replay_log-clause-quiet g c = reads_on g.S.Site c.args.site.now c.loop-number.site c.replay_log.new.site c.loop-number.invariant.quiet c.replay_log.ensures.quiet

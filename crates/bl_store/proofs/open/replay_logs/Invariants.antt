@@ -1,6 +1,6 @@
-use Rattle.std.proofs.Common.{◌≡◌, ◌≤◌, ◌<◌, ◌^◌, ◌⊎◌, drop, IsSome}
-use Rattle.bl_site.specs.Disk.{MayLeave, folder_of}
-use Rattle.bl_site.specs.Calls.{KeepsDisk, LeavesOnly}
+use Rattle.std.proofs.Common.{◌≡◌, ◌<◌, ◌^◌, ◌⊎◌, drop, IsSome}
+use Rattle.bl_site.specs.Disk.{folder_of}
+use Rattle.bl_site.specs.Quiet.{OnlyReads}
 use Rattle.bl_names.specs.Names.{IsNumber}
 use Rattle.bl_wal.specs.LogFile.{log_name}
 use Rattle.bl_store.specs.Listing.{AreLogsAbove}
@@ -17,9 +17,5 @@ invariant-loop-number g l =
       there : site.shows → (l.memory.greatest ≡ 0) ⊎ (IsNumber l.memory.greatest × IsSome (folder (log_name l.memory.greatest)));
       left : site.shows → AreLogsAbove l.memory.greatest (drop l.number-index l.numbers) folder;
       replayed : site.shows → HasReplayed folder l.memory.greatest (map_in l.memory.map.entries) l.memory.last;
-      stays : site.shows → KeepsDisk site.disk site.may_be site.certain l.fn.site l.site;
-      cuts : site.shows → LeavesOnly site.clock site.left_since l.fn.site l.site (MayLeave (site.may_be l.fn.site) (site.told l.fn.site));
-      told : site.shows → site.told l.site ≡ site.told l.fn.site;
-      later : site.disk_faults l.fn.site ≤ site.disk_faults l.site;
-      tell_faults : site.tell_faults l.site ≡ site.tell_faults l.fn.site;
+      quiet : OnlyReads site l.fn.site l.site;
     }

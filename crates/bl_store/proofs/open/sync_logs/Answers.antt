@@ -1,8 +1,9 @@
 use Rattle.std.proofs.Common.{◌≡◌, get_or, ap, sym, ◌∙◌, subst, arith, refl, inl, inr, IsSome}
 use Rattle.std.proofs.lemmas.Bool.{cases_lt}
-use Rattle.bl_site.specs.Disk.{Folder, MayLeave}
+use Rattle.bl_site.specs.Disk.{File, Folder, MayLeave}
+use Rattle.bl_site.proofs.Quiet.{reads_nothing, reading_is_silent, silent_on}
 use Rattle.bl_wal.specs.LogFile.{log_name}
-use Rattle.bl_store.proofs.FolderLemmas.{sync_keeps, sync_syncs, reads_there, at_place, all_synced}
+use Rattle.bl_store.proofs.FolderLemmas.{sync_keeps, sync_syncs, was_some, at_place, all_synced}
 use Rattle.bl_store.proofs.CutLemmas.{no_call, all_found, then_left, then_found, sync_reads}
 use Rattle.bl_store.proofs.BehindLemmas.{no_call_no_new, then_no_new}
 use Rattle.bl_store.proofs.OtherLemmas.{others_then, then_makes_no_file}
@@ -13,7 +14,7 @@ sync_log-requires-clause-there g c = λ shown.
     let number = get_or c.args.numbers.now c.loop-number.number-index 0 in
     let P : Folder → Type 0 = λ f. IsSome (f (log_name number)) in
     let each = at_place _ c.args.numbers.now c.loop-number.number-index (omega (arith, c.loop-number-test.true)) (c.requires.logs shown).each in
-    reads_there (g.S.Site.disk c.loop-number.site (log_name number)) (subst P (sym (c.loop-number.invariant.same shown)) each.2)
+    was_some (λ (file : File). file.read) (g.S.Site.disk c.loop-number.site (log_name number)) (subst P (sym (c.loop-number.invariant.same shown)) each.2)
 
 pub loop-number-preserved : goal.loop-number-preserved
 loop-number-preserved g c =
@@ -36,7 +37,7 @@ loop-number-preserved g c =
       certain = λ shown sure. c.sync_log.ensures.certain shown (i.certain shown sure);
       before = λ shown.
           let site = g.S.Site in
-          then_found site.clock site.left_since site.told site.may_be c.args.site.now c.loop-number.site c.sync_log.new.site (g.met.S.Site.counts_now shown c.loop-number.site) (i.told shown)
+          then_found site.clock site.left_since site.told site.may_be c.args.site.now c.loop-number.site c.sync_log.new.site (g.met.S.Site.counts_now shown c.loop-number.site) (i.tells_nothing.told shown)
           (i.before shown) (c.sync_log.ensures.before shown);
       cuts = λ shown reads.
           let site = g.S.Site in
@@ -45,9 +46,7 @@ loop-number-preserved g c =
             then_left site.clock site.left_since site.told site.may_be c.args.site.now c.loop-number.site c.sync_log.new.site (MayLeave (site.may_be c.args.site.now) (site.told c.args.site.now))
                 (g.met.S.Site.counts_now shown c.loop-number.site) here.1 (c.sync_log.ensures.cuts shown here.0),
           );
-      told = λ shown. c.sync_log.ensures.told shown ∙ i.told shown;
-      later = omega (arith, c.sync_log.ensures.later, i.later);
-      tell_faults = c.sync_log.ensures.tell_faults ∙ i.tell_faults;
+      tells_nothing = silent_on g.S.Site c.args.site.now c.loop-number.site c.sync_log.new.site i.tells_nothing c.sync_log.ensures.tells_nothing;
     }
 
 pub returns-clause-synced : goal.returns-clause-synced
@@ -64,7 +63,7 @@ pub returns-in_err-sync_log-clause-before : goal.returns-in_err-sync_log-clause-
 returns-in_err-sync_log-clause-before g c = λ shown.
     let site = g.S.Site in
     let i = c.loop-number.invariant in
-    then_found site.clock site.left_since site.told site.may_be c.args.site.now c.loop-number.site c.sync_log.new.site (g.met.S.Site.counts_now shown c.loop-number.site) (i.told shown)
+    then_found site.clock site.left_since site.told site.may_be c.args.site.now c.loop-number.site c.sync_log.new.site (g.met.S.Site.counts_now shown c.loop-number.site) (i.tells_nothing.told shown)
     (i.before shown) (c.sync_log.ensures.before shown)
 
 pub returns-in_err-sync_log-clause-cuts : goal.returns-in_err-sync_log-clause-cuts
@@ -87,9 +86,7 @@ loop-number-init g c =
       certain = λ shown sure. sure;
       before = λ shown. all_found site.clock site.left_since site.told site.may_be old old (no_call site.clock site.left_since site.told site.may_be old (g.met.S.Site.only_now shown old));
       cuts = λ shown reads. (reads, no_call site.clock site.left_since site.told site.may_be old (g.met.S.Site.only_now shown old));
-      told = λ shown. refl;
-      later = omega arith;
-      tell_faults = refl;
+      tells_nothing = reading_is_silent site old old (reads_nothing site old);
     }
 
 pub returns-in_err-sync_log-clause-no_file : goal.returns-in_err-sync_log-clause-no_file
@@ -102,3 +99,6 @@ returns-in_err-sync_log-clause-no_new g c = λ shown sure.
     let i = c.loop-number.invariant in
     then_no_new site.clock site.left_since site.disk site.told site.may_be c.args.site.now c.loop-number.site c.sync_log.new.site (i.no_file shown) (i.no_new shown sure)
     (c.sync_log.ensures.no_new shown (i.certain shown sure))
+
+pub returns-in_err-sync_log-clause-tells_nothing : goal.returns-in_err-sync_log-clause-tells_nothing
+returns-in_err-sync_log-clause-tells_nothing g c = silent_on g.S.Site c.args.site.now c.loop-number.site c.sync_log.new.site c.loop-number.invariant.tells_nothing c.sync_log.ensures.tells_nothing

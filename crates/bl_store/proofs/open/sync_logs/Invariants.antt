@@ -1,6 +1,7 @@
-use Rattle.std.proofs.Common.{◌≡◌, ◌≤◌, ◌<◌, ℕ, get_or}
+use Rattle.std.proofs.Common.{◌≡◌, ◌<◌, ℕ, get_or}
 use Rattle.bl_site.specs.Disk.{MayLeave, folder_of}
 use Rattle.bl_site.specs.Calls.{LeavesOnly}
+use Rattle.bl_site.specs.Quiet.{TellsNothing}
 use Rattle.bl_wal.specs.LogFile.{log_name}
 use Rattle.bl_store.specs.Stored.{IsSynced, KeepsOthers, MakesNoFile}
 use Rattle.bl_store.specs.Cuts.{LeavesFound, AreReadAsWritten, FindsNoNewFile}
@@ -19,7 +20,5 @@ invariant-loop-number g l =
       before : site.shows → LeavesOnly site.clock site.left_since l.fn.site l.site (LeavesFound (site.may_be l.fn.site) (site.told l.fn.site));
       cuts : site.shows → AreReadAsWritten (site.disk l.fn.site)
           → AreReadAsWritten (site.disk l.site) × LeavesOnly site.clock site.left_since l.fn.site l.site (MayLeave (site.may_be l.fn.site) (site.told l.fn.site));
-      told : site.shows → site.told l.site ≡ site.told l.fn.site;
-      later : site.disk_faults l.fn.site ≤ site.disk_faults l.site;
-      tell_faults : site.tell_faults l.site ≡ site.tell_faults l.fn.site;
+      tells_nothing : TellsNothing site l.fn.site l.site;
     }

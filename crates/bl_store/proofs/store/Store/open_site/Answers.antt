@@ -7,7 +7,7 @@ use Rattle.bl_wal.specs.LogFile.{log_name}
 use Rattle.bl_store.specs.Stored.{Stored, map_in}
 use Rattle.bl_store.proofs.OpenLemmas.{none_left, next_is}
 use Rattle.bl_store.proofs.BehindLemmas.{made_behind, unmade_behind}
-use Rattle.bl_store.proofs.CarryLemmas.{WasRead, is_next, is_opened, opens}
+use Rattle.bl_store.proofs.CarryLemmas.{is_next, is_opened, opens}
 use Rattle.bl_store.proofs.BarrierLemmas.{read_before, made_before, read_stands, made_stands, stands_reads}
 use Rattle.bl_store.proofs.OtherLemmas.{all_same, create_alone, log_alone, others_then, no_file_no_next, same_makes_no_file, then_makes_no_file}
 use Rattle.bl_store.proofs.store.Store.open_site.Goals as goal
@@ -16,9 +16,7 @@ pub returns-clause-opened : goal.returns-clause-opened
 returns-clause-opened g c = λ shown.
     let site = g.S.Site in
     let m = c.in_ok-memory.memory in
-    let found = c.in_ok-memory.ensures in
-    let read : WasRead (folder_of (site.disk c.args.site.now)) (site.disk c.read_logs.new.site) (map_in m.map.entries) m.last m.greatest =
-    record { only = found.only shown; same = found.same shown; bound = found.bound; all = found.replayed shown; synced = found.synced shown } in
+    let read = c.in_ok-memory.ensures.read shown in
     let store : Stored = record { log = c.in_ok-wal.wal; last = m.last; now = map_in m.map.entries; broken = false } in
     opens c.names_one.ensures (folder_of (site.disk c.args.site.now)) (site.disk c.read_logs.new.site) (site.disk c.create.new.site) store m.greatest c.in_ok-number.number
     read c.in_ok-number.ensures.next.0 c.in_ok-number.ensures.next.1 (c.in_ok-wal.ensures.created shown) c.in_ok-wal.ensures.made
@@ -34,9 +32,9 @@ returns-in_err-number-clause-full g c = λ shown number is.
     let p = err_from_is_err_and c.from_residual-in_err-number.result c.from_residual-in_err-number.ensures.1 in
     let e : Full (10 ^ 15) ≡ Full number = cc (is, p.1, p.2, c.in_err-number.ensures.full.0) in
     let m = c.in_ok-memory.memory in
-    let found = c.in_ok-memory.ensures in
+    let read = c.in_ok-memory.ensures.read shown in
     let limit = c.in_err-number.ensures.full.1 in
-    let n = none_left (folder_of (g.S.Site.disk c.args.site.now)) (map_in m.map.entries) m.last m.greatest (10 ^ 15) (found.only shown) (found.replayed shown) found.bound refl (next_is m.greatest (10 ^ 15) limit) in
+    let n = none_left (folder_of (g.S.Site.disk c.args.site.now)) (map_in m.map.entries) m.last m.greatest (10 ^ 15) read.only read.all c.in_ok-memory.ensures.bound refl (next_is m.greatest (10 ^ 15) limit) in
     let one : 10 ^ 15 ≡ number = cc e in
     (sym one, n.0, n.1)
 
@@ -66,13 +64,11 @@ returns-in_err-wal-clause-before g c = λ shown.
     let old = c.args.site.now in
     let mid = c.read_logs.new.site in
     let m = c.in_ok-memory.memory in
-    let found = c.in_ok-memory.ensures in
     let next = c.in_ok-number.ensures.next in
-    let read : WasRead (folder_of (site.disk c.args.site.now)) (site.disk c.read_logs.new.site) (map_in m.map.entries) m.last m.greatest =
-    record { only = found.only shown; same = found.same shown; bound = found.bound; all = found.replayed shown; synced = found.synced shown } in
+    let read = c.in_ok-memory.ensures.read shown in
     let is : IsNumber c.in_ok-number.number = (omega (arith, next.0), next.1) in
     made_before site.clock site.left_since site.disk site.told site.may_be (folder_of (site.disk old)) c.in_ok-number.number old mid c.create.new.site
-    (g.met.S.Site.counts_now shown mid) (c.read_logs.ensures.told shown) is (is_next (folder_of (site.disk old)) (map_in m.map.entries) m.last m.greatest c.in_ok-number.number read.all next.0)
+    (g.met.S.Site.counts_now shown mid) (c.read_logs.ensures.tells_nothing.told shown) is (is_next (folder_of (site.disk old)) (map_in m.map.entries) m.last m.greatest c.in_ok-number.number read.all next.0)
     (c.read_logs.ensures.before shown) (c.create.ensures.time shown)
 
 pub returns-in_err-wal-clause-cuts : goal.returns-in_err-wal-clause-cuts
@@ -81,13 +77,11 @@ returns-in_err-wal-clause-cuts g c = λ shown sure log older own synced last who
     let old = c.args.site.now in
     let mid = c.read_logs.new.site in
     let m = c.in_ok-memory.memory in
-    let found = c.in_ok-memory.ensures in
     let next = c.in_ok-number.ensures.next in
-    let read : WasRead (folder_of (site.disk c.args.site.now)) (site.disk c.read_logs.new.site) (map_in m.map.entries) m.last m.greatest =
-    record { only = found.only shown; same = found.same shown; bound = found.bound; all = found.replayed shown; synced = found.synced shown } in
+    let read = c.in_ok-memory.ensures.read shown in
     made_stands site.clock site.left_since site.disk site.told site.may_be c.cuts_stand.ensures old (λ other. g.met.S.Site.only shown old other sure) log older own synced last on
     c.names_one.ensures c.batches_are_once.ensures c.stores_stand.ensures mid c.create.new.site (map_in m.map.entries) m.last m.greatest c.in_ok-number.number whole
-    (g.met.S.Site.counts_now shown mid) (c.read_logs.ensures.told shown) (λ other. g.met.S.Site.only shown mid other (c.read_logs.ensures.certain shown sure)) read next.0 next.1
+    (g.met.S.Site.counts_now shown mid) (c.read_logs.ensures.tells_nothing.told shown) (λ other. g.met.S.Site.only shown mid other (c.read_logs.ensures.certain shown sure)) read next.0 next.1
     (c.read_logs.ensures.cuts shown (stands_reads log older own synced last (site.disk old) whole on)) (c.create.ensures.time shown)
 
 pub returns-in_err-wal-clause-others : goal.returns-in_err-wal-clause-others
@@ -97,7 +91,7 @@ returns-in_err-wal-clause-others g c = λ shown.
     let is : IsNumber c.in_ok-number.number = (omega (arith, next.0), next.1) in
     let mid = disk c.read_logs.new.site in
     let new = disk c.create.new.site in
-    others_then (disk c.args.site.now) mid new (c.read_logs.ensures.others shown) (log_alone c.in_ok-number.number mid new is (elim c.in_err-wal.ensures.causes [
+    others_then (disk c.args.site.now) mid new (c.read_logs.ensures.others shown) (log_alone c.in_ok-number.number mid new is (elim c.in_err-wal.ensures.errors [
       | inl failed ↦ create_alone (log_name c.in_ok-number.number) mid new (c.in_err-wal.ensures.failed shown (ap Err failed))
       | inr memory ↦ all_same (log_name c.in_ok-number.number) mid new (c.in_err-wal.ensures.memory shown (ap Err memory))
     ]))
@@ -117,13 +111,11 @@ returns-clause-before g c = λ shown.
     let old = c.args.site.now in
     let mid = c.read_logs.new.site in
     let m = c.in_ok-memory.memory in
-    let found = c.in_ok-memory.ensures in
     let next = c.in_ok-number.ensures.next in
-    let read : WasRead (folder_of (site.disk c.args.site.now)) (site.disk c.read_logs.new.site) (map_in m.map.entries) m.last m.greatest =
-    record { only = found.only shown; same = found.same shown; bound = found.bound; all = found.replayed shown; synced = found.synced shown } in
+    let read = c.in_ok-memory.ensures.read shown in
     let is : IsNumber c.in_ok-number.number = (omega (arith, next.0), next.1) in
     made_before site.clock site.left_since site.disk site.told site.may_be (folder_of (site.disk old)) c.in_ok-number.number old mid c.create.new.site
-    (g.met.S.Site.counts_now shown mid) (c.read_logs.ensures.told shown) is (is_next (folder_of (site.disk old)) (map_in m.map.entries) m.last m.greatest c.in_ok-number.number read.all next.0)
+    (g.met.S.Site.counts_now shown mid) (c.read_logs.ensures.tells_nothing.told shown) is (is_next (folder_of (site.disk old)) (map_in m.map.entries) m.last m.greatest c.in_ok-number.number read.all next.0)
     (c.read_logs.ensures.before shown) (c.create.ensures.time shown)
 
 pub returns-clause-cuts : goal.returns-clause-cuts
@@ -132,13 +124,11 @@ returns-clause-cuts g c = λ shown sure log older own synced last whole on.
     let old = c.args.site.now in
     let mid = c.read_logs.new.site in
     let m = c.in_ok-memory.memory in
-    let found = c.in_ok-memory.ensures in
     let next = c.in_ok-number.ensures.next in
-    let read : WasRead (folder_of (site.disk c.args.site.now)) (site.disk c.read_logs.new.site) (map_in m.map.entries) m.last m.greatest =
-    record { only = found.only shown; same = found.same shown; bound = found.bound; all = found.replayed shown; synced = found.synced shown } in
+    let read = c.in_ok-memory.ensures.read shown in
     made_stands site.clock site.left_since site.disk site.told site.may_be c.cuts_stand.ensures old (λ other. g.met.S.Site.only shown old other sure) log older own synced last on
     c.names_one.ensures c.batches_are_once.ensures c.stores_stand.ensures mid c.create.new.site (map_in m.map.entries) m.last m.greatest c.in_ok-number.number whole
-    (g.met.S.Site.counts_now shown mid) (c.read_logs.ensures.told shown) (λ other. g.met.S.Site.only shown mid other (c.read_logs.ensures.certain shown sure)) read next.0 next.1
+    (g.met.S.Site.counts_now shown mid) (c.read_logs.ensures.tells_nothing.told shown) (λ other. g.met.S.Site.only shown mid other (c.read_logs.ensures.certain shown sure)) read next.0 next.1
     (c.read_logs.ensures.cuts shown (stands_reads log older own synced last (site.disk old) whole on)) (c.create.ensures.time shown)
 
 pub returns-in_err-memory-clause-made : goal.returns-in_err-memory-clause-made
@@ -154,15 +144,13 @@ returns-in_err-wal-clause-made g c = λ shown next.
     let mid = site.disk c.read_logs.new.site in
     let new = site.disk c.create.new.site in
     let m = c.in_ok-memory.memory in
-    let found = c.in_ok-memory.ensures in
     let number = c.in_ok-number.number in
     let none = λ (same : new ≡ mid). absurd (no_file_no_next (site.disk c.args.site.now) new (then_makes_no_file (site.disk c.args.site.now) mid new (c.read_logs.ensures.no_file shown) (same_makes_no_file mid new same)) next) in
-    elim c.in_err-wal.ensures.causes [
+    elim c.in_err-wal.ensures.errors [
       | inl failed ↦ elim (c.in_err-wal.ensures.failed shown (ap Err failed)) [
         | inl same ↦ none same
         | inr made ↦
-            let read : WasRead folder mid (map_in m.map.entries) m.last m.greatest =
-            record { only = found.only shown; same = found.same shown; bound = found.bound; all = found.replayed shown; synced = found.synced shown } in
+            let read = c.in_ok-memory.ensures.read shown in
             is_opened c.names_one.ensures folder mid new (map_in m.map.entries) m.last m.greatest number read c.in_ok-number.ensures.next.0 c.in_ok-number.ensures.next.1 made
       ]
       | inr memory ↦ none (c.in_err-wal.ensures.memory shown (ap Err memory))
@@ -187,12 +175,10 @@ returns-in_err-wal-clause-behind g c = λ shown sure.
     let old = c.args.site.now in
     let mid = c.read_logs.new.site in
     let m = c.in_ok-memory.memory in
-    let found = c.in_ok-memory.ensures in
     let number = c.in_ok-number.number in
-    let read : WasRead (folder_of (site.disk old)) (site.disk mid) (map_in m.map.entries) m.last m.greatest =
-    record { only = found.only shown; same = found.same shown; bound = found.bound; all = found.replayed shown; synced = found.synced shown } in
+    let read = c.in_ok-memory.ensures.read shown in
     made_behind site.clock site.left_since site.disk site.told site.may_be number old mid c.create.new.site (c.read_logs.ensures.no_file shown) (c.read_logs.ensures.no_new shown sure) (c.create.ensures.time shown)
-    (λ other. g.met.S.Site.only shown mid other (c.read_logs.ensures.certain shown sure)) (c.read_logs.ensures.told shown)
+    (λ other. g.met.S.Site.only shown mid other (c.read_logs.ensures.certain shown sure)) (c.read_logs.ensures.tells_nothing.told shown)
     (λ after made. is_opened c.names_one.ensures (folder_of (site.disk old)) (site.disk mid) after (map_in m.map.entries) m.last m.greatest number read c.in_ok-number.ensures.next.0 c.in_ok-number.ensures.next.1 made)
 
 pub returns-clause-behind : goal.returns-clause-behind
@@ -201,10 +187,8 @@ returns-clause-behind g c = λ shown sure.
     let old = c.args.site.now in
     let mid = c.read_logs.new.site in
     let m = c.in_ok-memory.memory in
-    let found = c.in_ok-memory.ensures in
     let number = c.in_ok-number.number in
-    let read : WasRead (folder_of (site.disk old)) (site.disk mid) (map_in m.map.entries) m.last m.greatest =
-    record { only = found.only shown; same = found.same shown; bound = found.bound; all = found.replayed shown; synced = found.synced shown } in
+    let read = c.in_ok-memory.ensures.read shown in
     made_behind site.clock site.left_since site.disk site.told site.may_be number old mid c.create.new.site (c.read_logs.ensures.no_file shown) (c.read_logs.ensures.no_new shown sure) (c.create.ensures.time shown)
-    (λ other. g.met.S.Site.only shown mid other (c.read_logs.ensures.certain shown sure)) (c.read_logs.ensures.told shown)
+    (λ other. g.met.S.Site.only shown mid other (c.read_logs.ensures.certain shown sure)) (c.read_logs.ensures.tells_nothing.told shown)
     (λ after made. is_opened c.names_one.ensures (folder_of (site.disk old)) (site.disk mid) after (map_in m.map.entries) m.last m.greatest number read c.in_ok-number.ensures.next.0 c.in_ok-number.ensures.next.1 made)

@@ -1,6 +1,8 @@
 use Rattle.std.proofs.Common.{ℕ, length, arith, ap, subst, Err, inl, inr}
 use Rattle.bl_site.specs.Disk.{Disk}
 use Rattle.bl_wal.specs.LogFile.{LogFile, log_name}
+use Rattle.bl_records.proofs.HeldLemmas.{within_of}
+use Rattle.bl_wal.specs.Held.{record_of}
 use Rattle.bl_store.specs.Stored.{Stored, map_in, StandsOn, Carries, KeepsAllBut}
 use Rattle.bl_store.proofs.CarryLemmas.{changes}
 use Rattle.bl_store.proofs.FolderLemmas.{sync_keeps}
@@ -16,7 +18,7 @@ returns-in-Err-clause-held g c = λ shown older own synced.
     let P : Stored → Type 0 = λ s. Carries s older own synced old → StandsOn c.sync.new.self older own synced s.last new in
     subst P c.self.view_is (λ carries.
     changes c.names_one.ensures here.log older own synced here.last old new c.sync.new.self own synced here.last carries.on (ap (λ (l : LogFile). l.number) c.in-Err.ensures.fails)
-    (elim c.in-Err.ensures.causes [
+    (elim c.in-Err.ensures.errors [
       | inl d ↦ (c.in-Err.ensures.frayed shown (ap Err d)).puts.others
       | inr m ↦ λ other ne. ap (λ (d : Disk). d other) (c.in-Err.ensures.keeps shown (ap Err m)).same
     ]) (c.in-Err.ensures.holds shown own synced carries.on.holds) carries.on.follow)
@@ -43,7 +45,7 @@ returns-in-Err-clause-others g c = λ shown.
     let new = g.S.Site.disk c.sync.new.site in
     let here : Stored = record { log = c.self.inside.wal; last = c.self.inside.last; now = map_in c.self.inside.map.entries; broken = c.self.inside.broken } in
     let P : Stored → Type 0 = λ s. KeepsAllBut (log_name s.log.number) old new in
-    subst P c.self.view_is (elim c.in-Err.ensures.causes [
+    subst P c.self.view_is (elim c.in-Err.ensures.errors [
       | inl failed ↦ (c.in-Err.ensures.frayed shown (ap Err failed)).puts.others
       | inr memory ↦ all_same (log_name here.log.number) old new (c.in-Err.ensures.keeps shown (ap Err memory)).same
     ])
@@ -68,7 +70,7 @@ returns-in-Err-clause-cuts g c = λ shown sure older own synced carries.
     let store = c.args.self.now in
     let new = c.sync.new.site in
     sync_stands site.clock site.left_since site.disk site.told site.may_be c.cuts_stand.ensures old (g.met.S.Site.only_now shown old) (λ other. g.met.S.Site.only shown old other sure)
-    store.log older own synced store.last carries.on new c.sync.new.self synced (c.sync.ensures.told shown)
+    store.log older own synced store.last carries.on new c.sync.new.self synced (c.sync.ensures.tells_nothing.told shown)
     (λ other. g.met.S.Site.only shown new other (c.sync.ensures.certain shown sure)) (c.sync.ensures.time shown) (omega arith) (returns-in-Err-clause-held g c shown older own synced carries)
 
 pub returns-clause-cuts : goal.returns-clause-cuts
@@ -79,5 +81,5 @@ returns-clause-cuts g c = λ shown sure older own synced carries.
     let new = c.sync.new.site in
     let L : ℕ → Type 0 = λ l. StandsOn c.sync.new.self older own (length own) l (site.disk new) in
     sync_stands site.clock site.left_since site.disk site.told site.may_be c.cuts_stand.ensures old (g.met.S.Site.only_now shown old) (λ other. g.met.S.Site.only shown old other sure)
-    store.log older own synced store.last carries.on new c.sync.new.self (length own) (c.sync.ensures.told shown)
-    (λ other. g.met.S.Site.only shown new other (c.sync.ensures.certain shown sure)) (c.sync.ensures.time shown) carries.on.holds.within (subst L (ap (λ (s : Stored). s.last) c.self.view_is) (returns-clause-carried g c shown older own synced carries).on)
+    store.log older own synced store.last carries.on new c.sync.new.self (length own) (c.sync.ensures.tells_nothing.told shown)
+    (λ other. g.met.S.Site.only shown new other (c.sync.ensures.certain shown sure)) (c.sync.ensures.time shown) (within_of record_of own synced carries.on.holds.within) (subst L (ap (λ (s : Stored). s.last) c.self.view_is) (returns-clause-carried g c shown older own synced carries).on)

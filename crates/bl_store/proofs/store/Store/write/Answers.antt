@@ -48,7 +48,7 @@ returns-in-Err-clause-others g c = λ shown.
     let new = g.S.Site.disk c.append.new.site in
     let here : Stored = record { log = c.self.inside.wal; last = c.self.inside.last; now = map_in c.self.inside.map.entries; broken = c.self.inside.broken } in
     let P : Stored → Type 0 = λ s. KeepsAllBut (log_name s.log.number) old new in
-    subst P c.self.view_is (elim c.in-Err.ensures.causes [
+    subst P c.self.view_is (elim c.in-Err.ensures.errors [
       | inl failed ↦ (c.in-Err.ensures.torn shown (ap Err failed)).appends.puts.others
       | inr memory ↦ all_same (log_name here.log.number) old new (c.in-Err.ensures.memory shown (ap Err memory))
     ])
@@ -89,7 +89,7 @@ returns-in-Err-clause-cuts g c = λ shown sure older own synced carries.
     let b = next_batch store c.args.batch.now in
     let new = c.append.new.site in
     append_stands site.clock site.left_since site.disk site.told site.may_be c.cuts_stand.ensures old (g.met.S.Site.only_now shown old) (λ other. g.met.S.Site.only shown old other sure)
-    store.log older own synced store.last carries.on new c.append.new.self (b ∷ []) (store.last + length c.args.batch.now) (c.append.ensures.told shown)
+    store.log older own synced store.last carries.on new c.append.new.self (b ∷ []) (store.last + length c.args.batch.now) (c.append.ensures.tells_nothing.told shown)
     (λ other. g.met.S.Site.only shown new other (c.append.ensures.certain shown sure)) (c.append.ensures.time shown) (returns-in-Err-clause-held g c shown older own synced carries)
 
 pub returns-in-Err-put_operations-clause-cuts : goal.returns-in-Err-put_operations-clause-cuts
@@ -100,7 +100,7 @@ returns-in-Err-put_operations-clause-cuts g c = λ shown sure older own synced c
     let b = next_batch store c.args.batch.now in
     let new = c.append.new.site in
     append_stands site.clock site.left_since site.disk site.told site.may_be c.cuts_stand.ensures old (g.met.S.Site.only_now shown old) (λ other. g.met.S.Site.only shown old other sure)
-    store.log older own synced store.last carries.on new c.append.new.self (b ∷ []) (store.last + length c.args.batch.now) (c.append.ensures.told shown)
+    store.log older own synced store.last carries.on new c.append.new.self (b ∷ []) (store.last + length c.args.batch.now) (c.append.ensures.tells_nothing.told shown)
     (λ other. g.met.S.Site.only shown new other (c.append.ensures.certain shown sure)) (c.append.ensures.time shown) (returns-in-Err-put_operations-clause-held g c shown older own synced carries)
 
 pub returns-clause-cuts : goal.returns-clause-cuts
@@ -112,5 +112,5 @@ returns-clause-cuts g c = λ shown sure older own synced carries.
     let new = c.append.new.site in
     let L : ℕ → Type 0 = λ l. StandsOn c.append.new.self older (own ++ b ∷ []) synced l (site.disk new) in
     append_stands site.clock site.left_since site.disk site.told site.may_be c.cuts_stand.ensures old (g.met.S.Site.only_now shown old) (λ other. g.met.S.Site.only shown old other sure)
-    store.log older own synced store.last carries.on new c.append.new.self (b ∷ []) (store.last + length c.args.batch.now) (c.append.ensures.told shown)
+    store.log older own synced store.last carries.on new c.append.new.self (b ∷ []) (store.last + length c.args.batch.now) (c.append.ensures.tells_nothing.told shown)
     (λ other. g.met.S.Site.only shown new other (c.append.ensures.certain shown sure)) (c.append.ensures.time shown) (inr (subst L (ap (λ n. c.self.inside.last + n) (c.from-count.ensures ∙ c.count.ensures) ∙ ap (λ (s : Stored). s.last + length c.args.batch.now) c.self.view_is) (returns-clause-carried g c shown older own synced carries).on))

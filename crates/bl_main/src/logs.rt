@@ -1,0 +1,143 @@
+//! Logs whose reading ends before their bytes do.
+ghost use Rattle.std.specs.Prelude.{◌≡◌, ◌≢◌, IfOk, MatchOption};
+ghost use Rattle.bl_site.specs.Disk.{folder_of};
+ghost use Rattle.bl_main.specs.Ends.{EndsAt};
+
+use bl_log::EndCause;
+use bl_names::{FileName, parse_name};
+use bl_records::{NextRecord, ReadErr, RecordReader};
+use bl_site::{Site, SiteErr};
+use std::alloc::{AllocError, AllocFailed, Global};
+use std::collections::BTreeMap;
+use std::fmt;
+
+/// Why the reading of a log stopped, in a word or two; `None` where it came to the end of the log.
+fn reason(cause: EndCause) -> Option<&'static str>
+    ensures { MatchOption result (cause ≡ EndCause.Finished) (λ _. cause ≢ EndCause.Finished) }
+{
+    match cause {
+        EndCause::Finished => None,
+        EndCause::Cut => Some("cut off"),
+        EndCause::Length => Some("length"),
+        EndCause::Kind => Some("type"),
+        EndCause::Crc => Some("checksum"),
+        EndCause::Order => Some("order of fragments"),
+    }
+}
+
+/// A log whose reading ends before its bytes do. It prints as `000002.log: read up to byte 31 of 4096: checksum`.
+#[derive(Drop)]
+pub struct EarlyEnd {
+    name: String,
+    place: u64,
+    length: u64,
+    reason: &'static str,
+}
+
+impl fmt::Display for EarlyEnd {
+    fn fmt<W: fmt::Write>(&self, f: &mut fmt::Formatter<W>) -> fmt::Result {
+        let name = self.name.as_str();
+        let place = self.place;
+        let length = self.length;
+        let reason = self.reason;
+        write!(f, "{name}: read up to byte {place} of {length}: {reason}")
+    }
+}
+
+/// Why the logs could not be looked through.
+#[derive(Debug, Drop)]
+pub enum LookErr {
+    /// The folder failed.
+    Disk,
+    /// Memory ran out.
+    OutOfMemory,
+}
+
+impl From<AllocError> for LookErr {
+    fn from(_: AllocError) -> LookErr {
+        LookErr::OutOfMemory
+    }
+}
+
+impl<T: Drop> From<AllocFailed<T>> for LookErr {
+    fn from(_: AllocFailed<T>) -> LookErr {
+        LookErr::OutOfMemory
+    }
+}
+
+impl From<SiteErr> for LookErr {
+    fn from(error: SiteErr) -> LookErr {
+        match error {
+            SiteErr::OutOfMemory => LookErr::OutOfMemory,
+            SiteErr::DiskFailed | SiteErr::TellFailed => LookErr::Disk,
+        }
+    }
+}
+
+impl From<ReadErr> for LookErr {
+    fn from(error: ReadErr) -> LookErr {
+        match error {
+            ReadErr::OutOfMemory => LookErr::OutOfMemory,
+            ReadErr::Disk => LookErr::Disk,
+        }
+    }
+}
+
+// Where and why the reading of this log ends, or `None` where it is not there.
+fn end_of<S: Site>(
+    alloc: Global,
+    site: &mut S,
+    name: &str,
+) -> Result<Option<(u64, EndCause)>, LookErr>
+    ensures { S.shows → IfOk result (λ end. MatchOption end (folder_of (S.disk site.old) name.now ≡ None) (λ it. EndsAt (folder_of (S.disk site.old) name.now) it.0 it.1)) }
+{
+    let mut reader = RecordReader::open(alloc, String::from_str(alloc, name)?)?;
+    'records: for _record in 0..u64::MAX {
+        match reader.next(site)? {
+            NextRecord::Record(_) => {}
+            NextRecord::End(place, cause) => return Ok(Some((place, cause))),
+            NextRecord::Absent => return Ok(None),
+        }
+    }
+    Err(LookErr::OutOfMemory)
+}
+
+// What is to be said of this log, if anything.
+fn early_end<S: Site>(
+    alloc: Global,
+    site: &mut S,
+    name: &str,
+) -> Result<Option<EarlyEnd>, LookErr> {
+    let Some((place, cause)) = end_of(alloc, site, name)? else {
+        return Ok(None);
+    };
+    let Some(reason) = reason(cause) else {
+        return Ok(None);
+    };
+    let length = site.len(name)?.unwrap_or(place);
+    Ok(Some(EarlyEnd {
+        name: String::from_str(alloc, name)?,
+        place,
+        length,
+        reason,
+    }))
+}
+
+/// The logs of the folder whose reading ends before their bytes do, by number.
+///
+/// Errors: `Disk`, `OutOfMemory`.
+pub fn early_ends<S: Site>(alloc: Global, site: &mut S) -> Result<Vec<EarlyEnd>, LookErr> {
+    let mut logs = BTreeMap::new(alloc);
+    for name in site.list(alloc)? {
+        if let Some(FileName::Log(number)) = parse_name(name.as_str()) {
+            logs.insert(number, name)?;
+        }
+    }
+    let mut found = Vec::new(alloc);
+    for (_, name) in logs.iter() {
+        if let Some(end) = early_end(alloc, site, name.as_str())? {
+            found.push(end)?;
+        }
+    }
+    Ok(found)
+}

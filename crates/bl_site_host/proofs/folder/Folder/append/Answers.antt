@@ -1,0 +1,16 @@
+use Rattle.std.proofs.Common.{refl}
+use Rattle.bl_site_host.specs.Events.{Wrote}
+use Rattle.bl_site_host.specs.Handles.{IsPlaceOf}
+use Rattle.bl_site_host.proofs.Sound.{at_some, is_on, on_changed, sound_plain, sound_used, stands_at}
+use Rattle.bl_site_host.proofs.folder.Folder.append.Goals as goal
+
+pub returns-clause-bytes : goal.returns-clause-bytes
+returns-clause-bytes g c = λ shown sound.
+    let place = at_some (IsPlaceOf c.args.name.now c.opened.new.self.handles.open.items) _ _ c.in-Some.is c.in_ok-at.ensures.place in
+    on_changed _ _ _ c.changed.ensures.answered (λ good. is_on c.args.name.now (λ file ok. Wrote file c.args.bytes.now ok) _ _ _ _ (c.append.ensures.calls shown)
+    (stands_at g.S.System.id _ _ _ _ _ place c.index_mut-handle.ensures.value (c.opened.ensures.sound shown sound)) good)
+
+pub returns-clause-sound : goal.returns-clause-sound
+returns-clause-sound g c = λ shown sound.
+    let place = at_some (IsPlaceOf c.args.name.now c.opened.new.self.handles.open.items) _ _ c.in-Some.is c.in_ok-at.ensures.place in
+    sound_plain _ _ _ _ _ tt (c.append.ensures.calls shown) (sound_used g.S.System.id _ _ _ _ _ place.0 c.index_mut-handle.ensures.value refl (c.append.ensures.same shown) (c.opened.ensures.sound shown sound))

@@ -1,0 +1,10 @@
+use Rattle.bl_site_host.proofs.Sound.{sound_moved}
+use Rattle.bl_site_host.proofs.folder.Folder.rename.Goals as goal
+
+pub returns-in_err-changed-clause-sound : goal.returns-in_err-changed-clause-sound
+returns-in_err-changed-clause-sound g c = λ shown sound. sound_moved g.S.System.id _ _ _ _ _ _ _ _ c.close.ensures.gone (c.close.ensures.stand g.S.System.id) c.close-2.ensures.gone (c.close-2.ensures.stand g.S.System.id)
+    (c.rename.ensures shown) (c.is_there-2.ensures.sound shown (c.is_there.ensures.sound shown sound))
+
+pub returns-clause-sound : goal.returns-clause-sound
+returns-clause-sound g c = λ shown sound. c.sync_names.ensures.sound shown (sound_moved g.S.System.id _ _ _ _ _ _ _ _ c.close.ensures.gone (c.close.ensures.stand g.S.System.id) c.close-2.ensures.gone (c.close-2.ensures.stand g.S.System.id)
+    (c.rename.ensures shown) (c.is_there-2.ensures.sound shown (c.is_there.ensures.sound shown sound)))
