@@ -10,7 +10,7 @@ use Rattle.bl_edit.specs.declared.edit.NewTable.{NewTable}
 use Rattle.bl_build.specs.declared.meta.BlobMeta.{BlobMeta}
 use Rattle.bl_build.specs.Listing.{all_placed, blob_number, placed}
 use Rattle.bl_build.specs.Versions.{add_garbage, clash, first_over, first_overlap, first_twice, from_linked, has_same_number, is_over, is_spent, linked_to, new_blob, still_needed, table_numbers, with_blobs, with_garbage, with_links}
-use Rattle.bl_build.proofs.Chaining.{same_flip}
+use Rattle.bl_build.proofs.Clashing.{same_flip}
 use Rattle.bl_build.proofs.Files.{linked_stays, or_parts, other_file, over_in, same_number}
 use Rattle.bl_build.proofs.Placing.{all_all_placed, all_filter, all_placed_one, any_placed}
 

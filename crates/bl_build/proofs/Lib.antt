@@ -1,5 +1,6 @@
-mod Chaining
+mod Clashing
 mod Files
+mod Fronting
 mod Keeping
 mod Levels
 mod Placing

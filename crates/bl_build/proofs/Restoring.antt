@@ -15,7 +15,7 @@ use Rattle.bl_build.specs.declared.meta.Standing.{Standing}
 use Rattle.bl_build.specs.Listing.{Ascends, Listing, all_placed, blob_number, nothing, placed, table_rank}
 use Rattle.bl_build.specs.Snapshots.{addition_of, garbage_of, has_garbage, snapshot}
 use Rattle.bl_build.specs.Versions.{IsVersion, add_garbage, addition_numbers, after, apply, first_over, first_twice, first_unknown_blob, has_same_number, linked_to, new_blob, still_needed, table_numbers, with_blobs, with_garbage, with_links, with_tables}
-use Rattle.bl_build.proofs.Chaining.{free_passes, none_and, none_there}
+use Rattle.bl_build.proofs.Clashing.{free_passes, none_and, none_there}
 use Rattle.bl_build.proofs.Files.{ascends_more, other_files, over_in}
 use Rattle.bl_build.proofs.Keeping.{IsWithin, within_new}
 use Rattle.bl_build.proofs.Levels.{both_true, not_eqb}

@@ -13,7 +13,7 @@ use Rattle.bl_build.specs.declared.error.BadVersion.TheVariants.{UnknownTable, T
 use Rattle.bl_build.specs.Listing.{Listing, Ascends, all_placed, blob_number, placed, table_rank, nothing}
 use Rattle.bl_build.specs.Versions.{IsVersion, add_garbage, addition_numbers, after, apply, blob_numbers, first_over, first_overlap, first_twice, first_unknown, first_unknown_blob, from_linked, has_same_number, clash, is_spent, new_blob, still_needed, table_numbers, with_blobs, with_garbage, with_links, with_tables, without}
 use Rattle.bl_build.proofs.Files.{ascends_more, same_number}
-use Rattle.bl_build.proofs.Chaining.{clash_flips}
+use Rattle.bl_build.proofs.Clashing.{clash_flips}
 use Rattle.bl_build.proofs.Keeping.{distinct_all, distinct_filter, links_after, none_first, number_flips, overlap_passes, still_again, twice_passes, within_after}
 use Rattle.bl_build.proofs.Levels.{fits_number}
 use Rattle.bl_build.proofs.Placing.{all_all_placed, all_filter, any_placed, ascends_filter, ascends_placed}

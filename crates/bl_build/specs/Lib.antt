@@ -1,4 +1,4 @@
-pub mod Chains
+pub mod Fronts
 pub mod Laws
 pub mod Listing
 pub mod Restoring

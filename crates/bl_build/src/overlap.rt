@@ -1,11 +1,11 @@
 //! Tables of one level must not overlap, from level 1 on.
 
-ghost use Rattle.std.specs.Prelude.{◌≡◌, List, map, true, false, None, IfOk};
+ghost use Rattle.std.specs.Prelude.{◌≡◌, ◌-◌, ◌<◌, ◌↔◌, List, map, length, slice_index_or, IsTrue, false, None, IfOk};
 ghost use Rattle.std.specs.Bool.{OnTrue};
-ghost use Rattle.std.specs.List.{AllByRecursion, list_any};
+ghost use Rattle.std.specs.List.{list_any};
 ghost use Rattle.bl_code.specs.Order.{user_part};
 ghost use Rattle.bl_edit.specs.declared.edit.NewTable.{NewTable};
-ghost use Rattle.bl_build.specs.Chains.{AreProper, AreSteps, IsChain, is_proper as proper_test, precedes as precedes_test};
+ghost use Rattle.bl_build.specs.Fronts.{IsFront, by_end as end_order, covers as covers_test, reaches as reaches_test};
 ghost use Rattle.bl_build.specs.Versions.{clash as clash_test, first_overlap as overlap_in};
 
 use crate::error::BuildErr;
@@ -18,8 +18,8 @@ const NUMBER_BYTES: usize = 8;
 
 /// The first added table that overlaps one of its level, from level 1 on, that is left or stands before it.
 ///
-/// Where there is none, that is seen from the order of the added tables by level and key, in which each table
-/// that is left is looked up. Only an edit that is refused is searched pair by pair.
+/// Tables are never compared pair by pair: whether the added ones are apart is seen from their order, and where they
+/// are not, halving finds how many of the first ones are.
 pub(crate) fn first_overlap(
     alloc: Global,
     left: &[NewTable],
@@ -30,32 +30,87 @@ pub(crate) fn first_overlap(
     if are_apart(alloc, left, added)? {
         return Ok(None);
     }
-    Ok(search(left, added))
-}
-
-fn search(left: &[NewTable], added: &[NewTable]) -> Option<u64>
-    ensures { result ≡ overlap_in left.now added.now }
-{
-    for (i, table) in added.iter().enumerate() {
-        if clashes(table, left) {
-            return Some(table.number);
-        }
-        if clashes(table, &added[..i]) {
-            return Some(table.number);
+    let mut apart = 0;
+    let mut over = added.len();
+    while over - apart > 1 {
+        let middle = apart + (over - apart) / 2;
+        if are_apart(alloc, left, &added[..middle])? {
+            apart = middle;
+        } else {
+            over = middle;
         }
     }
-    None
+    Ok(Some(added[apart].number))
 }
 
-fn clashes(table: &NewTable, others: &[NewTable]) -> bool
-    ensures { result ≡ list_any (clash_test table.now) others.now }
+// Whether no added table clashes with another one or with one that is left.
+//
+// The added ones are sorted by level and greatest key, the last one first. Each is looked up among those before it,
+// and each table that is left among them all. Only the front of them is kept: a table is left out where one before it
+// covers it, since what clashes with it clashes with that one too.
+fn are_apart(alloc: Global, left: &[NewTable], added: &[NewTable]) -> Result<bool, BuildErr>
+    ensures { IfOk result (λ apart. IsTrue apart ↔ (overlap_in left.now added.now ≡ None)) }
 {
-    for other in others {
-        if clash(table, other) {
+    if are_of_level_0(added) {
+        return Ok(true);
+    }
+    let mut tables = Vec::with_capacity(alloc, added.len())?;
+    for table in added {
+        tables.push(table)?;
+    }
+    tables.sort_unstable_by(|a, b| by_end(b, a));
+    let mut front = Vec::with_capacity(alloc, added.len())?;
+    for next in &tables {
+        if clashes(next, &front) {
+            return Ok(false);
+        }
+        if !is_covered(next, &front) {
+            front.push(*next)?;
+        }
+    }
+    Ok(!any_clashes(left, &front))
+}
+
+fn are_of_level_0(added: &[NewTable]) -> bool
+    ensures { OnTrue result ((left : List NewTable) → overlap_in left added.now ≡ None) }
+{
+    for table in added {
+        if table.level != 0 {
+            return false;
+        }
+    }
+    true
+}
+
+// Whether the last table of a front is of the same level and begins no later.
+fn is_covered(table: &NewTable, front: &[&NewTable]) -> bool
+    ensures empty { length front.now ≡ 0 → result ≡ false }
+    ensures last { 0 < length front.now → result ≡ covers_test (slice_index_or (map (λ t. t.now) front.now) (length front.now - 1) table.now) table.now }
+{
+    let count = front.len();
+    count != 0 && covers(front[count - 1], table)
+}
+
+fn any_clashes(tables: &[NewTable], front: &[&NewTable]) -> bool
+    requires { IsFront (map (λ t. t.now) front.now) }
+    ensures { result ≡ list_any (λ t. list_any (clash_test t) (map (λ u. u.now) front.now)) tables.now }
+{
+    for table in tables {
+        if clashes(table, front) {
             return true;
         }
     }
     false
+}
+
+// Whether a table clashes with one of a front. Those that end too soon stand last, and of the others of its level the
+// last one begins first.
+fn clashes(table: &NewTable, front: &[&NewTable]) -> bool
+    requires { IsFront (map (λ t. t.now) front.now) }
+    ensures { result ≡ list_any (clash_test table.now) (map (λ u. u.now) front.now) }
+{
+    let count = front.partition_point(|other| reaches(other, table));
+    count != 0 && clash(table, front[count - 1])
 }
 
 fn clash(a: &NewTable, b: &NewTable) -> bool
@@ -65,6 +120,24 @@ fn clash(a: &NewTable, b: &NewTable) -> bool
         && b.level == a.level
         && first_user(a).cmp(last_user(b)).is_le()
         && first_user(b).cmp(last_user(a)).is_le()
+}
+
+fn covers(a: &NewTable, b: &NewTable) -> bool
+    ensures { result ≡ covers_test a.now b.now }
+{
+    a.level == b.level && first_user(a).cmp(first_user(b)).is_le()
+}
+
+fn reaches(a: &NewTable, b: &NewTable) -> bool
+    ensures { result ≡ reaches_test a.now b.now }
+{
+    b.level < a.level || a.level == b.level && first_user(b).cmp(last_user(a)).is_le()
+}
+
+fn by_end(a: &NewTable, b: &NewTable) -> Ordering
+    ensures { result ≡ end_order a.now b.now }
+{
+    a.level.cmp(&b.level).then(last_user(a).cmp(last_user(b)))
 }
 
 fn first_user(table: &NewTable) -> &[u8]
@@ -83,109 +156,4 @@ fn user(key: &[u8]) -> &[u8]
     ensures { result.now ≡ user_part key.entry.now }
 {
     &key[..key.len().saturating_sub(NUMBER_BYTES)]
-}
-
-// Whether no added table clashes with another one or with one that is left, as the order of the added ones by
-// level and first key shows.
-fn are_apart(alloc: Global, left: &[NewTable], added: &[NewTable]) -> Result<bool, BuildErr>
-    ensures { IfOk result (λ apart. OnTrue apart (overlap_in left.now added.now ≡ None)) }
-{
-    if are_of_level_0(added) {
-        return Ok(true);
-    }
-    let mut tables = Vec::with_capacity(alloc, added.len())?;
-    for table in added {
-        tables.push(table)?;
-    }
-    tables.sort_unstable_by(|a, b| order(a, b));
-    if !is_chain(&tables) {
-        return Ok(false);
-    }
-    Ok(are_free(left, &tables))
-}
-
-fn are_of_level_0(added: &[NewTable]) -> bool
-    ensures { OnTrue result ((left : List NewTable) → overlap_in left added.now ≡ None) }
-{
-    for table in added {
-        if table.level != 0 {
-            return false;
-        }
-    }
-    true
-}
-
-fn order(a: &NewTable, b: &NewTable) -> Ordering {
-    a.level.cmp(&b.level).then(first_user(a).cmp(first_user(b)))
-}
-
-// Whether each table ends before the next one of its level begins.
-fn is_chain(tables: &[&NewTable]) -> bool
-    ensures { OnTrue result (IsChain (map (λ t. t.now) tables.now)) }
-{
-    if !are_proper(tables) {
-        return false;
-    }
-    are_steps(tables)
-}
-
-fn are_proper(tables: &[&NewTable]) -> bool
-    ensures { OnTrue result (AreProper (map (λ t. t.now) tables.now)) }
-{
-    for table in tables {
-        if !is_proper(table) {
-            return false;
-        }
-    }
-    true
-}
-
-fn are_steps(tables: &[&NewTable]) -> bool
-    ensures { OnTrue result (AreSteps (map (λ t. t.now) tables.now)) }
-{
-    for i in 1..tables.len() {
-        if !precedes(tables[i - 1], tables[i]) {
-            return false;
-        }
-    }
-    true
-}
-
-// Whether none of the tables that are left clashes with one of a chain.
-fn are_free(left: &[NewTable], chain: &[&NewTable]) -> bool
-    requires { IsChain (map (λ t. t.now) chain.now) }
-    ensures { OnTrue result (AllByRecursion (λ t. list_any (clash_test t) (map (λ u. u.now) chain.now) ≡ false) left.now) }
-{
-    for table in left {
-        if !is_free(table, chain) {
-            return false;
-        }
-    }
-    true
-}
-
-// Whether a table stands between two of a chain.
-fn is_free(table: &NewTable, chain: &[&NewTable]) -> bool
-    requires { IsChain (map (λ t. t.now) chain.now) }
-    ensures { OnTrue result (list_any (clash_test table.now) (map (λ u. u.now) chain.now) ≡ false) }
-{
-    let at = chain.partition_point(|other| precedes(other, table));
-    let Some(next) = chain.get(at) else {
-        return true;
-    };
-    precedes(table, next)
-}
-
-fn is_proper(table: &NewTable) -> bool
-    ensures { result ≡ proper_test table.now }
-{
-    first_user(table).cmp(last_user(table)).is_le()
-}
-
-fn precedes(a: &NewTable, b: &NewTable) -> bool
-    ensures { result ≡ precedes_test a.now b.now }
-{
-    a.level == 0
-        || a.level < b.level
-        || a.level == b.level && last_user(a).cmp(first_user(b)).is_lt()
 }

@@ -42,8 +42,9 @@ pub fn apply(alloc: Global, base: &Version, edit: &Edit) -> Result<Version, BadV
 /// The cost is that of the edit's keys, and of passing over the version: deleted tables and blob files are looked up
 /// in the base by their order. The tables of the base are passed over to move them and to count the links of blob files;
 /// where the edit adds tables, to look each up among the numbers that are added; and where it adds to a level from 1
-/// on, to look each up among the added tables, sorted by level and key. Each added file moves those behind it. Memory
-/// beside the new version is taken for sets of the edit's own files, and for a second list of the blob files with a
+/// on, to look each up among the added tables, sorted by level and greatest key. Where there is an overlap, this last
+/// is done once more for each halving of the added tables. Each added file moves those behind it. Memory beside the
+/// new version is taken for sets and lists of the edit's own files, and for a second list of the blob files with a
 /// number for each.
 pub fn advance(alloc: Global, base: Version, edit: &Edit) -> Result<Version, BadVersion>
     requires { IsEdit edit.now }

@@ -5,7 +5,7 @@ use crate::{
 };
 use bl_blob::Totals;
 use bl_edit::{NewTable, Options, decode_edit, encode_edit};
-use std::alloc::Global;
+use std::alloc::{AllocError, Global};
 use std::test::Fail;
 
 // The table 4 of level 0 with its oldest blob file, and the blob file 5 with one record of 34 bytes.
@@ -25,12 +25,29 @@ const TOUCHING: [u8; 27] = [
     0x67, 1, 8, 0x76, 9, 0x63, 1, 1, 0, 0, 0, 0, 0, 0, 9, 0x64, 1, 1, 0, 0, 0, 0, 0, 0, 1, 1, 1,
 ];
 
+// Behind the level and number of a table of which the greatest user key, a, stands before the least, c.
+const TURNED: [u8; 24] = [
+    0x76, 9, 0x63, 1, 1, 0, 0, 0, 0, 0, 0, 9, 0x61, 1, 1, 0, 0, 0, 0, 0, 0, 1, 1, 1,
+];
+
 // The edit of these bytes applied.
 fn applied(alloc: Global, base: &Version, bytes: &[u8]) -> Result<Version, BadVersion> {
     match decode_edit(alloc, bytes) {
         Ok(edit) => apply(alloc, base, &edit),
         Err(_) => Err(BadVersion::OutOfMemory),
     }
+}
+
+// The bytes of 3,000 such tables of level 1, numbered from 128 on: no two of them overlap.
+fn turned_tables(alloc: Global) -> Result<Vec<u8>, AllocError> {
+    let mut bytes = Vec::new(alloc);
+    for number in 128..3128u16 {
+        let low = (number % 128) as u8;
+        let high = (number / 128) as u8;
+        bytes.extend_from_slice(&[0x67, 1, 128 + low, high])?;
+        bytes.extend_from_slice(&TURNED)?;
+    }
+    Ok(bytes)
 }
 
 fn first_number(tables: &[NewTable]) -> Option<u64> {
@@ -112,6 +129,27 @@ fn edits_that_do_not_fit_are_refused(rt: HostRuntime) -> Result<(), Fail> {
     assert_eq!(rt;
         applied(rt.alloc(), &levels, &TOUCHING).err(),
         Some(BadVersion::Overlap(8))
+    );
+    Ok(())
+}
+
+#[test]
+fn overlaps_are_found_among_many_tables(rt: HostRuntime) -> Result<(), Fail> {
+    let nothing = Version::empty(rt.alloc());
+    let mut bytes = turned_tables(rt.alloc())?;
+    let Ok(many) = applied(rt.alloc(), &nothing, bytes.as_slice()) else {
+        return Err("not applied".into());
+    };
+    assert_eq!(rt; many.tables(1).len(), 3000);
+    assert_eq!(rt;
+        applied(rt.alloc(), &many, &TWO_LEVELS).err(),
+        Some(BadVersion::Overlap(7))
+    );
+    bytes.extend_from_slice(&TWO_LEVELS)?;
+    bytes.extend_from_slice(&TOUCHING)?;
+    assert_eq!(rt;
+        applied(rt.alloc(), &nothing, bytes.as_slice()).err(),
+        Some(BadVersion::Overlap(7))
     );
     Ok(())
 }

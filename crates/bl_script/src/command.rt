@@ -43,6 +43,14 @@ impl Operations {
     {
         self.items.as_slice()
     }
+
+    /// The operations, in their order. They are moved out: no key and no value is copied.
+    pub fn into_vec(self) -> Vec<Operation>
+        ensures { result.items ≡ self }
+    {
+        let Operations { items } = self;
+        items
+    }
 }
 
 /// A command of the script. Keys and values are decoded.

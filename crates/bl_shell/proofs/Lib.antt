@@ -1,4 +1,3 @@
-mod BatchLemmas
 mod BreakLemmas
 mod CarriedLemmas
 mod CrashLemmas
@@ -10,7 +9,6 @@ mod LawLemmas
 mod LimitLemmas
 mod LineLemmas
 mod MomentLemmas
-mod OnOk
 mod PairLemmas
 mod PieceLemmas
 mod StayLemmas

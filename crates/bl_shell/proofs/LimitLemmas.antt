@@ -1,11 +1,13 @@
 -- No store stands on a disk whose batches pass the greatest sequence.
 use Rattle.std.proofs.Common.{◌≡◌, ◌⊎◌, ℕ, ◌+◌, ◌^◌, ◌<◌, ◌≤◌, List, [], ◌∷◌, ◌++◌, length, map, Bool, true, false, refl, sym, ◌∙◌, ap, subst, arith, inl, inr, Option, Some, None}
 use Rattle.std.specs.Prelude.{cond, ◌==◌, ◌||◌, nat_le, Ok, Err, Result}
-use Rattle.std.specs.Option.{unwrap_or}
 use Rattle.std.proofs.lemmas.Bool.{leb-true, eqb-true}
 use Rattle.std.proofs.lemmas.List.Sums.{sum_by-append, sum_by-cons}
+use Rattle.std.proofs.lemmas.Option.{same_Some}
 use Rattle.bl_site.specs.Disk.{Disk, folder_of}
 use Rattle.bl_code.specs.Reading.{Input, from_start, take_fixed32, take_fixed64, or_fault, need, ◌>>=◌}
+use Rattle.bl_code.proofs.Basics.{need_then, ok_is}
+use Rattle.bl_code.proofs.ChainLemmas.{then_ok}
 use Rattle.bl_entry.specs.Batches.{Batch}
 use Rattle.bl_entry.specs.Reading.{read_batch, operations_at}
 use Rattle.bl_entry.specs.Records.{and_batch, batch_behind, batches_of}
@@ -21,20 +23,6 @@ use Rattle.bl_store.specs.Stored.{Stored, Opens}
 use Rattle.bl_shell.specs.Machine.{Line, Write, writes_of, written_by, operations_in, numbered, reopens, reopens_in, Start, Fits}
 use Rattle.bl_shell.specs.Carried.{IsServable, IsWrite, HasRoom, operations_of}
 use Rattle.bl_shell.proofs.StayLemmas.{next_number}
-
-bind_ok : {A B E : Type 0} (r : Result A E) (f : A → Result B E) (y : B) → (r >>= f) ≡ Ok y → (x : A) × (r ≡ Ok x) × (f x ≡ Ok y)
-bind_ok (Ok x) f y h = (x, refl, h)
-bind_ok (Err e) f y h = cc
-
-need_ok : {B E : Type 0} (b : Bool) (e : E) (f : Unit {0} → Result B E) (y : B) → (need b e >>= f) ≡ Ok y → (b ≡ true) × (f tt ≡ Ok y)
-need_ok true e f y h = (refl, h)
-need_ok false e f y h = cc
-
-ok_is : {A E : Type 0} {x y : A} → ◌≡◌ {A = Result A E} (Ok x) (Ok y) → x ≡ y
-ok_is e = cc
-
-some_is : {A : Type 0} {x y : A} → Some x ≡ Some y → x ≡ y
-some_is {x = x} e = ap (λ o. unwrap_or o x) e
 
 either_true : (a b : Bool) → (a || b) ≡ true → (a ≡ true) ⊎ (b ≡ true)
 either_true true b h = inl refl
@@ -65,16 +53,16 @@ room_of first count operations size test = elim (either_true (count == 0) (nat_l
 
 room_then : (first count : ℕ) (operations : List Operation) (b : Batch) → operations_then first count operations ≡ Ok b → HasSequences b
 room_then first count operations b e =
-    let (same, e4) = need_ok (length operations == count) (At rule.Count 8) (λ _. sequences_then first count operations) b e in
-    let (test, e5) = need_ok ((count == 0) || nat_le (first + count) (2 ^ 56)) (At rule.Sequence 0) (λ _. Ok (record { first = first; operations = operations })) b e4 in
+    let (same, e4) = need_then (length operations == count) (At rule.Count 8) (λ _. sequences_then first count operations) b e in
+    let (test, e5) = need_then ((count == 0) || nat_le (first + count) (2 ^ 56)) (At rule.Sequence 0) (λ _. Ok (record { first = first; operations = operations })) b e4 in
     subst HasSequences (ok_is e5) (room_of first count operations (eqb-true (length operations) count same) test)
 
 read_room : (bytes : List ℕ) (b : Batch) → read_batch bytes ≡ Ok b → HasSequences b
 unfolding read_batch
 read_room bytes b e =
-    let (first, at_first, e1) = bind_ok (or_fault (At rule.Head 0) (take_fixed64 (from_start bytes))) first_then b e in
-    let (count, at_count, e2) = bind_ok (or_fault (At rule.Head 0) (take_fixed32 first.1)) (count_then first.0) b e1 in
-    let (operations, at_operations, e3) = bind_ok (operations_at (length count.1.left) count.1) (operations_then first.0 count.0) b e2 in
+    let (first, at_first, e1) = then_ok (or_fault (At rule.Head 0) (take_fixed64 (from_start bytes))) first_then b e in
+    let (count, at_count, e2) = then_ok (or_fault (At rule.Head 0) (take_fixed32 first.1)) (count_then first.0) b e1 in
+    let (operations, at_operations, e3) = then_ok (operations_at (length count.1.left) count.1) (operations_then first.0 count.0) b e2 in
     room_then first.0 count.0 operations b e3
 
 operations_first : (b : Batch) (bs : List Batch) → operations_of (b ∷ bs) ≡ length b.operations + operations_of bs
@@ -99,7 +87,7 @@ module _ (rs : List (List ℕ)) (before last : ℕ) (bs : List Batch) (ends : (s
   by_rest : (b : Batch) (o : Option (List Batch × ℕ)) → HasSequences b → b.first ≡ before + 1 → batches_of rs (before + length b.operations) ≡ o → and_batch b o ≡ Some (bs, last) → Ends before last bs
   by_rest b None room first q f = cc
   by_rest b (Some more) room first q f =
-      let p : ◌≡◌ {A = List Batch × ℕ} (b ∷ more.0, more.1) (bs, last) = some_is f in
+      let p : ◌≡◌ {A = List Batch × ℕ} (b ∷ more.0, more.1) (bs, last) = same_Some _ _ f in
       let rest = ends (before + length b.operations) more.1 more.0 q in
       let l : more.1 ≡ last = ap (λ x. x.1) p in
       let total : length b.operations + operations_of more.0 ≡ operations_of bs = sym (operations_first b more.0) ∙ ap (λ x. operations_of x.0) p in
@@ -125,7 +113,7 @@ no_operations = refl
 pub ends : (records : List (List ℕ)) (before last : ℕ) (bs : List Batch) → batches_of records before ≡ Some (bs, last) → Ends before last bs
 unfolding batches_of
 ends [] before last bs e =
-    let p : ◌≡◌ {A = List Batch × ℕ} ([], before) (bs, last) = some_is e in
+    let p : ◌≡◌ {A = List Batch × ℕ} ([], before) (bs, last) = same_Some _ _ e in
     let l : before ≡ last = ap (λ r. r.1) p in
     let none : operations_of bs ≡ 0 = ap (λ r. operations_of r.0) (sym p) ∙ no_operations in
     record { counted = omega arith; fits = λ small. omega arith }

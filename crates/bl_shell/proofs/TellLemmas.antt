@@ -1,12 +1,18 @@
 -- What is told where `tell` fails.
-use Rattle.std.proofs.Common.{◌≡◌, ℕ, List, [], ◌++◌, take, drop, Err, IsErrOf, refl, sym, ◌∙◌, ap, append-nil}
+use Rattle.std.proofs.Common.{◌≡◌, ℕ, List, [], ◌++◌, take, drop, Result, Ok, Err, IsErrOf, refl, sym, ◌∙◌, ap, append-nil}
 use Rattle.std.proofs.lemmas.List.{take-append-drop}
+use Rattle.std.specs.Result.{IfErr}
 use Rattle.bl_site.specs.declared.site.SiteErr.{SiteErr}
 use Rattle.bl_site.specs.declared.site.SiteErr.TheVariants as failed
 use Rattle.bl_site.specs.Causes.{HasTellCause}
 use Rattle.bl_shell.specs.Carried.{TellsFront}
 use Rattle.bl_shell.specs.Causes.{stop_of}
 use Rattle.bl_shell.specs.declared.stop.Stop.TheVariants as stop
+
+-- what is said of each error
+pub each_err : {T E : Type 0} (r : Result T E) (P : E → Type 0) → ((e : E) → P e) → IfErr r P
+each_err (Ok x) P p = tt
+each_err (Err e) P p = p e
 
 -- some first bytes
 pub tells_count : (bytes told next : List ℕ) (count : ℕ) → next ≡ told ++ take count bytes → TellsFront bytes told next

@@ -13,14 +13,14 @@ use bl_script::Operation;
 use std::alloc::Global;
 
 // A put follows in the batch.
-fn add_put(batch: &mut Batch, key: &Octets, value: &Octets) -> Result<(), Stop>
-    requires key { IsKey key.now }
-    requires value { IsValue value.now }
+fn add_put(batch: &mut Batch, key: Octets, value: Octets) -> Result<(), Stop>
+    requires key { IsKey key }
+    requires value { IsValue value }
     requires room { length batch.old < 2 ^ 32 - 1 }
-    ensures put { OnOk result (batch.new ≡ batch.old ++ put_of key.now value.now ∷ []) }
+    ensures put { OnOk result (batch.new ≡ batch.old ++ put_of key value ∷ []) }
     ensures memory { IfErr result (λ e. e ≡ Stop.OutOfMemory) }
 {
-    match batch.put(key.as_slice(), value.as_slice()) {
+    match batch.put_octets(key, value) {
         Ok(()) => Ok(()),
         Err(BatchErr::OutOfMemory) => Err(Stop::OutOfMemory),
         Err(BatchErr::Key(_)) => unreachable!(),
@@ -30,13 +30,13 @@ fn add_put(batch: &mut Batch, key: &Octets, value: &Octets) -> Result<(), Stop>
 }
 
 // A deletion follows in the batch.
-fn add_del(batch: &mut Batch, key: &Octets) -> Result<(), Stop>
-    requires key { IsKey key.now }
+fn add_del(batch: &mut Batch, key: Octets) -> Result<(), Stop>
+    requires key { IsKey key }
     requires room { length batch.old < 2 ^ 32 - 1 }
-    ensures put { OnOk result (batch.new ≡ batch.old ++ deletion_of key.now ∷ []) }
+    ensures put { OnOk result (batch.new ≡ batch.old ++ deletion_of key ∷ []) }
     ensures memory { IfErr result (λ e. e ≡ Stop.OutOfMemory) }
 {
-    match batch.del(key.as_slice()) {
+    match batch.del_octets(key) {
         Ok(()) => Ok(()),
         Err(BatchErr::OutOfMemory) => Err(Stop::OutOfMemory),
         Err(BatchErr::Key(_)) => unreachable!(),
@@ -46,10 +46,10 @@ fn add_del(batch: &mut Batch, key: &Octets) -> Result<(), Stop>
 }
 
 // A batch of one put.
-pub(crate) fn batch_of_put(alloc: Global, key: &Octets, value: &Octets) -> Result<Batch, Stop>
-    requires key { IsKey key.now }
-    requires value { IsValue value.now }
-    ensures batch { IfOk result (λ b. b ≡ put_of key.now value.now ∷ []) }
+pub(crate) fn batch_of_put(alloc: Global, key: Octets, value: Octets) -> Result<Batch, Stop>
+    requires key { IsKey key }
+    requires value { IsValue value }
+    ensures batch { IfOk result (λ b. b ≡ put_of key value ∷ []) }
     ensures memory { IfErr result (λ e. e ≡ Stop.OutOfMemory) }
 {
     let mut batch = Batch::start(alloc);
@@ -58,9 +58,9 @@ pub(crate) fn batch_of_put(alloc: Global, key: &Octets, value: &Octets) -> Resul
 }
 
 // A batch of one deletion.
-pub(crate) fn batch_of_del(alloc: Global, key: &Octets) -> Result<Batch, Stop>
-    requires key { IsKey key.now }
-    ensures batch { IfOk result (λ b. b ≡ deletion_of key.now ∷ []) }
+pub(crate) fn batch_of_del(alloc: Global, key: Octets) -> Result<Batch, Stop>
+    requires key { IsKey key }
+    ensures batch { IfOk result (λ b. b ≡ deletion_of key ∷ []) }
     ensures memory { IfErr result (λ e. e ≡ Stop.OutOfMemory) }
 {
     let mut batch = Batch::start(alloc);
@@ -69,10 +69,10 @@ pub(crate) fn batch_of_del(alloc: Global, key: &Octets) -> Result<Batch, Stop>
 }
 
 // An operation follows in the batch.
-fn add(batch: &mut Batch, operation: &Operation) -> Result<(), Stop>
-    requires within { IsOperation operation.now }
+fn add(batch: &mut Batch, operation: Operation) -> Result<(), Stop>
+    requires within { IsOperation operation }
     requires room { length batch.old < 2 ^ 32 - 1 }
-    ensures put { OnOk result (batch.new ≡ batch.old ++ ordered operation.now ∷ []) }
+    ensures put { OnOk result (batch.new ≡ batch.old ++ ordered operation ∷ []) }
     ensures memory { IfErr result (λ e. e ≡ Stop.OutOfMemory) }
 {
     match operation {
@@ -82,10 +82,10 @@ fn add(batch: &mut Batch, operation: &Operation) -> Result<(), Stop>
 }
 
 // A batch of these operations.
-pub(crate) fn batch_of(alloc: Global, operations: &[Operation]) -> Result<Batch, Stop>
-    requires within { AllByRecursion IsOperation operations.now }
-    requires few { length operations.now < 2 ^ 32 }
-    ensures batch { IfOk result (λ b. b ≡ map ordered operations.now) }
+pub(crate) fn batch_of(alloc: Global, operations: Vec<Operation>) -> Result<Batch, Stop>
+    requires within { AllByRecursion IsOperation operations.items }
+    requires few { length operations.items < 2 ^ 32 }
+    ensures batch { IfOk result (λ b. b ≡ map ordered operations.items) }
     ensures memory { IfErr result (λ e. e ≡ Stop.OutOfMemory) }
 {
     let mut batch = Batch::start(alloc);

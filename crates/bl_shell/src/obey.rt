@@ -168,15 +168,15 @@ fn do_command<S: Site>(
     cuts_stand();
     match command {
         Command::Put { key, value } => {
-            let batch = batch_of_put(alloc, &key, &value)?;
+            let batch = batch_of_put(alloc, key, value)?;
             do_write(store, alloc, &batch, site)
         }
         Command::Del { key } => {
-            let batch = batch_of_del(alloc, &key)?;
+            let batch = batch_of_del(alloc, key)?;
             do_write(store, alloc, &batch, site)
         }
         Command::Batch { operations } => {
-            let batch = batch_of(alloc, operations.as_slice())?;
+            let batch = batch_of(alloc, operations.into_vec())?;
             do_write(store, alloc, &batch, site)
         }
         Command::Get { key } => {

@@ -1,7 +1,7 @@
 use Rattle.std.proofs.Common.{◌≡◌, subst}
 use Rattle.std.specs.List.{AllByRecursion}
 use Rattle.bl_edit.specs.declared.edit.NewTable.{NewTable}
-use Rattle.bl_build.proofs.Chaining.{level_0_passes}
+use Rattle.bl_build.proofs.Clashing.{level_0_passes}
 use Rattle.bl_build.proofs.Placing.{all_more, take_whole}
 use Rattle.bl_build.proofs.overlap.are_of_level_0.Goals as goal
 

@@ -1,15 +1,16 @@
-use Rattle.std.proofs.Common.{◌≡◌, ◌++◌, ◌∙◌, ap, sym, refl, rules, inl, inr}
+use Rattle.std.proofs.Common.{◌≡◌, ◌+◌, ◌^◌, ◌≤◌, length, arith, ◌++◌, ◌∙◌, ap, sym, refl, rules, inl, inr}
 use Rattle.std.specs.Option.{option_copied}
 use Rattle.bl_site.proofs.Moments.{widened}
 use Rattle.bl_script.specs.declared.command.Command.TheVariants.{Put, Del, Batch, Get, Scan, Sync}
 use Rattle.bl_script.specs.declared.command.Parsed.TheVariants.{Go}
 use Rattle.bl_shell.specs.Carried.{IsWrite, IsTold}
 use Rattle.bl_shell.specs.Machine.{reply}
+use Rattle.std.proofs.lemmas.Result.{on_err_weaker, on_ok_weaker}
+use Rattle.bl_code.proofs.Basics.{on_any_err}
 use Rattle.bl_shell.proofs.CutLemmas.{cut_only_told}
 use Rattle.bl_shell.proofs.MomentLemmas.{unbegun}
 use Rattle.bl_shell.proofs.StayLemmas.{told_only}
-use Rattle.bl_shell.proofs.OnOk.{each_err, any_err, on_err, on_ok}
-use Rattle.bl_shell.proofs.TellLemmas.{tells_nothing}
+use Rattle.bl_shell.proofs.TellLemmas.{tells_nothing, each_err}
 use Rattle.bl_shell.proofs.LimitLemmas.{quiet_room}
 use Rattle.bl_shell.proofs.obey.do_command.Goals as goal
 
@@ -31,7 +32,7 @@ returns-in-Scan-clause-ok g c = λ shown.
     let to = c.in-Scan.to in
     let m = c.args.store.now.now in
     let told = g.S.Site.told c.args.site.now in
-    rw c.in-Scan.is (on_ok c.tell_pairs.result _ _ (λ is.
+    rw c.in-Scan.is (on_ok_weaker c.tell_pairs.result (λ is.
     told_only (Go (Scan from to)) c.args.store.now _ _ (reply (Scan from to) m) _ _ (record { writes = refl; tells = refl; opens = refl; no_sync = refl }) (c.tell_pairs.ensures.stays shown)
     (is ∙ ap (λ f. told ++ reply (Scan f (option_copied c.as_ref-in-Scan.result)) m) c.as_ref.ensures.value ∙ ap (λ t. told ++ reply (Scan from t) m) c.as_ref-in-Scan.ensures.value))
     (c.tell_pairs.ensures.ok shown))
@@ -96,49 +97,49 @@ pub returns-in-Reopen-clause-cuts : goal.returns-in-Reopen-clause-cuts
 returns-in-Reopen-clause-cuts g c = λ shown certain batches least s. rw c.in-Reopen.is (c.do_reopen.ensures.cuts shown certain batches least s)
 
 pub returns-in_err-batch-in-Put-clause-room : goal.returns-in_err-batch-in-Put-clause-room
-returns-in_err-batch-in-Put-clause-room g c = λ shown. any_err c.from_residual.result _ (inl refl)
+returns-in_err-batch-in-Put-clause-room g c = λ shown. on_any_err c.from_residual.result _ (inl refl)
 
 pub returns-in_err-batch-in-Del-clause-room : goal.returns-in_err-batch-in-Del-clause-room
-returns-in_err-batch-in-Del-clause-room g c = λ shown. any_err c.from_residual-in_err-batch-in-Del.result _ (inl refl)
+returns-in_err-batch-in-Del-clause-room g c = λ shown. on_any_err c.from_residual-in_err-batch-in-Del.result _ (inl refl)
 
 pub returns-in_err-batch-in-Batch-clause-room : goal.returns-in_err-batch-in-Batch-clause-room
-returns-in_err-batch-in-Batch-clause-room g c = λ shown. any_err c.from_residual-in_err-batch-in-Batch.result _ (inl refl)
+returns-in_err-batch-in-Batch-clause-room g c = λ shown. on_any_err c.from_residual-in_err-batch-in-Batch.result _ (inl refl)
 
 pub returns-in_err-reply-in-Get-clause-room : goal.returns-in_err-reply-in-Get-clause-room
-returns-in_err-reply-in-Get-clause-room g c = λ shown. any_err c.from_residual-in_err-reply-in-Get.result _ (inl refl)
+returns-in_err-reply-in-Get-clause-room g c = λ shown. on_any_err c.from_residual-in_err-reply-in-Get.result _ (inl refl)
 
 pub returns-in_ok-batch-in-Put-clause-room : goal.returns-in_ok-batch-in-Put-clause-room
 returns-in_ok-batch-in-Put-clause-room g c = λ shown.
     let order = Go (Put c.in-Put.key c.in-Put.value) in
     let w : IsWrite order c.in_ok-batch-in-Put.batch = record { writes = search rules; tells = λ m. refl; opens = refl; no_sync = refl } in
-    rw c.in-Put.is (on_err c.do_write.result _ _ (λ x. elim x [ inl same ↦ inl same | inr room ↦ inr (room order w) ]) (c.do_write.ensures.room shown))
+    rw c.in-Put.is (on_err_weaker c.do_write.result (λ x. elim x [ inl same ↦ inl same | inr room ↦ inr (room order w) ]) (c.do_write.ensures.room shown))
 
 pub returns-in_ok-batch-in-Del-clause-room : goal.returns-in_ok-batch-in-Del-clause-room
 returns-in_ok-batch-in-Del-clause-room g c = λ shown.
     let order = Go (Del c.in-Del.key) in
     let w : IsWrite order c.in_ok-batch-in-Del.batch = record { writes = search rules; tells = λ m. refl; opens = refl; no_sync = refl } in
-    rw c.in-Del.is (on_err c.do_write-in-Del.result _ _ (λ x. elim x [ inl same ↦ inl same | inr room ↦ inr (room order w) ]) (c.do_write-in-Del.ensures.room shown))
+    rw c.in-Del.is (on_err_weaker c.do_write-in-Del.result (λ x. elim x [ inl same ↦ inl same | inr room ↦ inr (room order w) ]) (c.do_write-in-Del.ensures.room shown))
 
 pub returns-in_ok-batch-in-Batch-clause-room : goal.returns-in_ok-batch-in-Batch-clause-room
 returns-in_ok-batch-in-Batch-clause-room g c = λ shown.
     let order = Go (Batch c.in-Batch.operations) in
     let w : IsWrite order c.in_ok-batch-in-Batch.batch = record { writes = search rules; tells = λ m. refl; opens = refl; no_sync = refl } in
-    rw c.in-Batch.is (on_err c.do_write-in-Batch.result _ _ (λ x. elim x [ inl same ↦ inl same | inr room ↦ inr (room order w) ]) (c.do_write-in-Batch.ensures.room shown))
+    rw c.in-Batch.is (on_err_weaker c.do_write-in-Batch.result (λ x. elim x [ inl same ↦ inl same | inr room ↦ inr (room order w) ]) (c.do_write-in-Batch.ensures.room shown))
 
 pub returns-in_ok-reply-in-Get-clause-room : goal.returns-in_ok-reply-in-Get-clause-room
 returns-in_ok-reply-in-Get-clause-room g c = λ shown.
     let t = c.requires.there shown in
-    rw c.in-Get.is (any_err c.do_tell.result _ (inr (quiet_room (Go (Get c.in-Get.key)) c.args.store.now t.0 t.1.0 _ refl refl t.1.1)))
+    rw c.in-Get.is (on_any_err c.do_tell.result _ (inr (quiet_room (Go (Get c.in-Get.key)) c.args.store.now t.0 t.1.0 _ refl refl t.1.1)))
 
 pub returns-in-Scan-clause-room : goal.returns-in-Scan-clause-room
 returns-in-Scan-clause-room g c = λ shown.
     let t = c.requires.there shown in
-    rw c.in-Scan.is (any_err c.tell_pairs.result _ (inr (quiet_room (Go (Scan c.in-Scan.from c.in-Scan.to)) c.args.store.now t.0 t.1.0 _ refl refl t.1.1)))
+    rw c.in-Scan.is (on_any_err c.tell_pairs.result _ (inr (quiet_room (Go (Scan c.in-Scan.from c.in-Scan.to)) c.args.store.now t.0 t.1.0 _ refl refl t.1.1)))
 
 pub returns-in-Sync-clause-room : goal.returns-in-Sync-clause-room
 returns-in-Sync-clause-room g c = λ shown.
     let t = c.requires.there shown in
-    rw c.in-Sync.is (any_err c.do_sync.result _ (inr (quiet_room (Go Sync) c.args.store.now t.0 t.1.0 _ refl refl t.1.1)))
+    rw c.in-Sync.is (on_any_err c.do_sync.result _ (inr (quiet_room (Go Sync) c.args.store.now t.0 t.1.0 _ refl refl t.1.1)))
 
 pub returns-in-Reopen-clause-room : goal.returns-in-Reopen-clause-room
 returns-in-Reopen-clause-room g c = λ shown. rw c.in-Reopen.is (c.do_reopen.ensures.room shown)
@@ -148,3 +149,10 @@ returns-in-Scan-clause-obeyed g c = λ shown.
     rw c.in-Scan.is (λ is.
     told_only (Go (Scan c.in-Scan.from c.in-Scan.to)) c.args.store.now _ _ (reply (Scan c.in-Scan.from c.in-Scan.to) c.args.store.now.now) _ _
     (record { writes = refl; tells = refl; opens = refl; no_sync = refl }) (c.tell_pairs.ensures.stays shown) refl)
+
+pub returns-in_ok-batch-in-Batch-clause-full : goal.returns-in_ok-batch-in-Batch-clause-full
+returns-in_ok-batch-in-Batch-clause-full g c = λ shown limit is.
+    let w : IsWrite (Go (Batch c.in-Batch.operations)) c.in_ok-batch-in-Batch.batch = record { writes = search rules; tells = λ m. refl; opens = refl; no_sync = refl } in
+    let full = c.do_write-in-Batch.ensures.full shown limit is in
+    let passed : 2 ^ 56 ≤ c.args.store.now.last + length c.in_ok-batch-in-Batch.batch = omega (arith, full.0, full.1) in
+    rw c.in-Batch.is (inl (c.in_ok-batch-in-Batch.batch, (w.writes, full.0, passed)), full.2)

@@ -7,11 +7,11 @@ use Rattle.bl_script.specs.declared.command.Parsed.TheVariants.{Nothing, Go}
 use Rattle.bl_store.specs.declared.error.StoreErr.TheVariants as store
 use Rattle.bl_store.specs.Causes.{IsUntouched}
 use Rattle.bl_shell.specs.Carried.{TellsFront}
-use Rattle.bl_shell.proofs.OnOk.{each_err, any_err}
+use Rattle.bl_code.proofs.Basics.{on_any_err}
 use Rattle.bl_shell.proofs.CutLemmas.{cut_quiet, leaves_first, least_within}
 use Rattle.bl_shell.proofs.MomentLemmas.{replied}
 use Rattle.bl_shell.proofs.StayLemmas.{reopened_line, stays_reopened, stands, corrupt_was}
-use Rattle.bl_shell.proofs.TellLemmas.{no_corrupt, no_limit, tell_broke, tells_nothing}
+use Rattle.bl_shell.proofs.TellLemmas.{no_corrupt, no_limit, tell_broke, tells_nothing, each_err}
 use Rattle.bl_shell.proofs.LimitLemmas.{reopened_room}
 use Rattle.bl_shell.proofs.TopLemmas.{stop_full, stop_not_tell}
 use Rattle.bl_store.proofs.OtherLemmas.{others_same, others_then}
@@ -67,12 +67,12 @@ returns-clause-cuts g c = λ shown certain batches least s.
     (stays_reopened c.stores_stand.ensures c.batches_are_once.ensures c.args.store.now _ _ _ _ batches least c.in_ok-store.ensures.usable (c.in_ok-store.ensures.opened shown) refl s)
 
 pub returns-in_err-store-clause-room : goal.returns-in_err-store-clause-room
-returns-in_err-store-clause-room g c = λ shown. any_err c.from_residual.result _ (inl (c.open_site.ensures.told shown))
+returns-in_err-store-clause-room g c = λ shown. on_any_err c.from_residual.result _ (inl (c.open_site.ensures.told shown))
 
 pub returns-in_err-tell-clause-room : goal.returns-in_err-tell-clause-room
 returns-in_err-tell-clause-room g c = λ shown.
     let t = c.requires.there shown in
-    any_err c.from_residual-in_err-tell.result _ (inr (reopened_room c.args.store.now _ t.0 t.1.0 _ _ (c.in_ok-store.ensures.opened shown) t.1.1))
+    on_any_err c.from_residual-in_err-tell.result _ (inr (reopened_room c.args.store.now _ t.0 t.1.0 _ _ (c.in_ok-store.ensures.opened shown) t.1.1))
 
 pub returns-in_err-tell-clause-others : goal.returns-in_err-tell-clause-others
 returns-in_err-tell-clause-others g c = λ shown. others_then _ _ _ (c.open_site.ensures.others shown) (others_same _ _ (c.tell.ensures.stays shown).same)

@@ -5,11 +5,10 @@ use Rattle.bl_script.specs.Printing.{ok_line}
 use Rattle.bl_script.specs.declared.command.Command.TheVariants.{Sync}
 use Rattle.bl_script.specs.declared.command.Parsed.TheVariants.{Go}
 use Rattle.bl_shell.specs.Carried.{TellsFront}
-use Rattle.bl_shell.proofs.OnOk.{each_err}
 use Rattle.bl_shell.proofs.CutLemmas.{cut_quiet, leaves_first, least_within}
 use Rattle.bl_shell.proofs.MomentLemmas.{replied}
 use Rattle.bl_shell.proofs.StayLemmas.{synced_line, stays_synced}
-use Rattle.bl_shell.proofs.TellLemmas.{tell_broke, tells_nothing}
+use Rattle.bl_shell.proofs.TellLemmas.{tell_broke, tells_nothing, each_err}
 use Rattle.bl_shell.proofs.TopLemmas.{stop_not_tell}
 use Rattle.bl_store.proofs.OtherLemmas.{log_alone, others_same, others_then}
 use Rattle.bl_shell.proofs.obey.do_sync.Goals as goal

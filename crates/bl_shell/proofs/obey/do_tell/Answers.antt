@@ -1,5 +1,5 @@
 use Rattle.std.proofs.Common.{refl}
-use Rattle.bl_shell.proofs.OnOk.{any_err}
+use Rattle.bl_code.proofs.Basics.{on_any_err}
 use Rattle.bl_shell.proofs.MomentLemmas.{telling}
 use Rattle.bl_shell.proofs.StayLemmas.{told_only}
 use Rattle.bl_shell.proofs.TellLemmas.{tell_broke}
@@ -8,7 +8,7 @@ use Rattle.bl_shell.proofs.obey.do_tell.Goals as goal
 
 pub returns-in_err-tell-clause-front : goal.returns-in_err-tell-clause-front
 returns-in_err-tell-clause-front g c = λ shown.
-    any_err c.from_residual.result _ (tell_broke c.in_err-tell.field-0.0 _ _ _ _ _ _ refl c.in_err-tell.ensures.cause (c.in_err-tell.ensures.failed shown) (c.in_err-tell.ensures.memory shown))
+    on_any_err c.from_residual.result _ (tell_broke c.in_err-tell.field-0.0 _ _ _ _ _ _ refl c.in_err-tell.ensures.cause (c.in_err-tell.ensures.failed shown) (c.in_err-tell.ensures.memory shown))
 
 pub returns-clause-ok : goal.returns-clause-ok
 returns-clause-ok g c = λ shown order told. told_only order c.args.store.now _ _ c.args.reply.now _ _ told (c.in_ok-tell.ensures.stays shown).same (c.in_ok-tell.ensures.done shown)

@@ -10,11 +10,11 @@ use Rattle.bl_store.specs.Causes.{IsUntouched}
 use Rattle.bl_shell.specs.Machine.{Write, numbered}
 use Rattle.bl_shell.specs.Synced.{syncs}
 use Rattle.bl_shell.specs.Carried.{TellsFront, IsServable, CutIn}
-use Rattle.bl_shell.proofs.OnOk.{each_err, any_err}
+use Rattle.bl_code.proofs.Basics.{on_any_err}
 use Rattle.bl_shell.proofs.CutLemmas.{cut_writing, least_within}
 use Rattle.bl_shell.proofs.MomentLemmas.{unbegun, replied}
 use Rattle.bl_shell.proofs.StayLemmas.{wrote_line, stays_wrote}
-use Rattle.bl_shell.proofs.TellLemmas.{no_limit, tell_broke, tells_nothing}
+use Rattle.bl_shell.proofs.TellLemmas.{no_limit, tell_broke, tells_nothing, each_err}
 use Rattle.bl_shell.proofs.TopLemmas.{stop_full, stop_not_tell}
 use Rattle.bl_shell.proofs.LimitLemmas.{written_room}
 use Rattle.bl_store.proofs.OtherLemmas.{log_alone, others_same, others_then}
@@ -74,10 +74,10 @@ returns-clause-cuts g c = λ shown certain order w batches least s.
     (subst W (sym w.writes) (stays_wrote order c.args.batch.now c.args.store.now c.write.new.self _ disk disk batches least w c.in_ok-write.ensures.written (c.in_ok-write.ensures.carried shown) refl s))
 
 pub returns-in_err-write-clause-room : goal.returns-in_err-write-clause-room
-returns-in_err-write-clause-room g c = λ shown. any_err c.from_residual.result _ (inl (c.write.ensures.told shown))
+returns-in_err-write-clause-room g c = λ shown. on_any_err c.from_residual.result _ (inl (c.write.ensures.told shown))
 
 pub returns-in_err-tell-clause-room : goal.returns-in_err-tell-clause-room
-returns-in_err-tell-clause-room g c = λ shown. any_err c.from_residual-in_err-tell.result _ (inr (λ order w.
+returns-in_err-tell-clause-room g c = λ shown. on_any_err c.from_residual-in_err-tell.result _ (inr (λ order w.
     let t = c.requires.there shown in
     written_room order c.args.batch.now c.args.store.now t.0 t.1.0 _ w c.in_ok-write.ensures.fits t.1.1))
 

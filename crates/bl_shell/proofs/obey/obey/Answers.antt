@@ -2,11 +2,11 @@ use Rattle.std.proofs.Common.{[], refl, sym, append-nil, rules, inr}
 use Rattle.bl_script.specs.declared.command.Parsed.TheVariants.{Nothing, Refused}
 use Rattle.bl_site.proofs.Moments.{widened}
 use Rattle.bl_shell.specs.Carried.{IsTold}
+use Rattle.bl_code.proofs.Basics.{on_any_err}
 use Rattle.bl_shell.proofs.CutLemmas.{cut_only_told}
 use Rattle.bl_shell.proofs.MomentLemmas.{unbegun}
 use Rattle.bl_shell.proofs.StayLemmas.{told_only}
 use Rattle.bl_shell.proofs.LimitLemmas.{quiet_room}
-use Rattle.bl_shell.proofs.OnOk.{any_err}
 use Rattle.bl_shell.proofs.obey.obey.Goals as goal
 
 pub returns-in-Nothing-clause-ok : goal.returns-in-Nothing-clause-ok
@@ -31,7 +31,7 @@ returns-in-Go-clause-cuts g c = λ shown certain batches least s. rw c.in-Go.is 
 pub returns-in-Refused-clause-room : goal.returns-in-Refused-clause-room
 returns-in-Refused-clause-room g c = λ shown.
     let t = c.requires.there shown in
-    rw c.in-Refused.is (any_err c.do_tell.result _ (inr (quiet_room (Refused c.in-Refused.why) c.args.store.now t.0 t.1.0 _ refl refl t.1.1)))
+    rw c.in-Refused.is (on_any_err c.do_tell.result _ (inr (quiet_room (Refused c.in-Refused.why) c.args.store.now t.0 t.1.0 _ refl refl t.1.1)))
 
 pub returns-in-Go-clause-room : goal.returns-in-Go-clause-room
 returns-in-Go-clause-room g c = λ shown. rw c.in-Go.is (c.do_command.ensures.room shown)

@@ -2,9 +2,9 @@ use Rattle.std.proofs.Common.{◌≡◌, ℕ, List, [], ◌∷◌, ◌++◌, ref
 use Rattle.bl_site.proofs.Moments.{joins, widened}
 use Rattle.bl_script.specs.Printing.{pair_line, end_line}
 use Rattle.bl_shell.specs.Carried.{TellsFront}
+use Rattle.bl_code.proofs.Basics.{on_any_err}
 use Rattle.bl_shell.proofs.CutLemmas.{cut_at}
 use Rattle.bl_shell.proofs.MomentLemmas.{quiet_telling, tells_on}
-use Rattle.bl_shell.proofs.OnOk.{any_err}
 use Rattle.bl_shell.proofs.PairLemmas.{between, within, more, one_more, at_end, all_told}
 use Rattle.bl_shell.proofs.TellLemmas.{tell_broke}
 use Rattle.bl_shell.proofs.scan.tell_pairs.Goals as goal
@@ -32,7 +32,7 @@ pairs-init g c =
 pub returns-in_err-append_pair-clause-front : goal.returns-in_err-append_pair-clause-front
 returns-in_err-append_pair-clause-front g c = λ shown.
     let i = c.pairs.invariant.told shown in
-    any_err c.from_residual.result _ (between i.0 c.pairs.key-iterator _ (g.S.Site.told c.args.site.now) (g.S.Site.told c.pairs.site) i.1.0 i.1.1.0)
+    on_any_err c.from_residual.result _ (between i.0 c.pairs.key-iterator _ (g.S.Site.told c.args.site.now) (g.S.Site.told c.pairs.site) i.1.0 i.1.1.0)
 
 pub pairs-preserved : goal.pairs-preserved
 pairs-preserved g c =
@@ -76,7 +76,7 @@ returns-in_err-tell_piece-clause-front g c = λ shown.
     let line : string_bytes c.append_pair.new.out ≡ lines ++ pair_line c.in-Some.key.now c.in-Some.value.now =
     c.in_ok-append_pair.ensures ∙ ap (λ k. lines ++ pair_line k c.as_slice-in-pairs.result.now) c.as_slice.ensures ∙ ap (λ v. lines ++ pair_line c.in-Some.key.now v) c.as_slice-in-pairs.ensures in
     let P : List ℕ → Type 0 = λ b. TellsFront b (site.told c.pairs.site) (site.told c.tell_piece.new.site) in
-    any_err c.from_residual-in_err-tell_piece.result _
+    on_any_err c.from_residual-in_err-tell_piece.result _
     (within i.0 c.pairs.key-iterator c.next.new.self _ pair lines (site.told c.args.site.now) (site.told c.pairs.site) (site.told c.tell_piece.new.site) i.1.0 c.in-Some.ensures.steps i.1.1.0 i.1.1.1
     (subst P line (c.in_err-tell_piece.ensures.front shown)))
 
@@ -99,13 +99,13 @@ returns-in_err-tell_piece-clause-cuts g c = λ shown certain.
 pub returns-in_err-push_str-clause-front : goal.returns-in_err-push_str-clause-front
 returns-in_err-push_str-clause-front g c = λ shown.
     let i = c.pairs.invariant.told shown in
-    any_err c.from_residual-in_err-push_str.result _ (between i.0 c.pairs.key-iterator _ (g.S.Site.told c.args.site.now) (g.S.Site.told c.pairs.site) i.1.0 i.1.1.0)
+    on_any_err c.from_residual-in_err-push_str.result _ (between i.0 c.pairs.key-iterator _ (g.S.Site.told c.args.site.now) (g.S.Site.told c.pairs.site) i.1.0 i.1.1.0)
 
 pub returns-in_err-tell-clause-front : goal.returns-in_err-tell-clause-front
 returns-in_err-tell-clause-front g c = λ shown.
     let i = c.pairs.invariant.told shown in
     let last : c.as_bytes.result.now ≡ string_bytes c.pairs.lines ++ end_line = c.as_bytes.ensures.value ∙ c.in_ok-push_str.ensures.bytes in
-    any_err c.from_residual-in_err-tell.result _
+    on_any_err c.from_residual-in_err-tell.result _
     (at_end i.0 c.pairs.key-iterator _ (string_bytes c.pairs.lines) (g.S.Site.told c.args.site.now) (g.S.Site.told c.pairs.site) (g.S.Site.told c.tell.new.self) i.1.0 c.in-None.ensures.steps.0 i.1.1.0 i.1.1.1
     (tell_broke c.in_err-tell.field-0.0 _ _ _ _ _ _ last c.in_err-tell.ensures.cause (c.in_err-tell.ensures.failed shown) (c.in_err-tell.ensures.memory shown)))
 

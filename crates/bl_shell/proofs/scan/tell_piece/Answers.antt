@@ -1,8 +1,8 @@
 use Rattle.std.proofs.Common.{ℕ, List, subst, ◌∙◌, ap, sym, [], refl, ◌++◌, append-nil, string_bytes}
 use Rattle.bl_site.specs.Calls.{LeavesOnly}
 use Rattle.bl_shell.specs.Carried.{CutTelling}
+use Rattle.bl_code.proofs.Basics.{on_any_err}
 use Rattle.bl_shell.proofs.MomentLemmas.{telling, quiet_telling}
-use Rattle.bl_shell.proofs.OnOk.{any_err}
 use Rattle.bl_shell.proofs.TellLemmas.{tell_broke}
 use Rattle.bl_shell.proofs.scan.tell_piece.Goals as goal
 
@@ -11,7 +11,7 @@ returns-then-len-lt-PIECE-clause-ok g c = λ shown. (record { front = []; rest =
 
 pub returns-in_err-tell-clause-front : goal.returns-in_err-tell-clause-front
 returns-in_err-tell-clause-front g c = λ shown.
-    any_err c.from_residual.result _ (tell_broke c.in_err-tell.field-0.0 _ _ _ _ _ _ c.as_bytes.ensures.value c.in_err-tell.ensures.cause (c.in_err-tell.ensures.failed shown) (c.in_err-tell.ensures.memory shown))
+    on_any_err c.from_residual.result _ (tell_broke c.in_err-tell.field-0.0 _ _ _ _ _ _ c.as_bytes.ensures.value c.in_err-tell.ensures.cause (c.in_err-tell.ensures.failed shown) (c.in_err-tell.ensures.memory shown))
 
 pub returns-in_err-tell-clause-cuts : goal.returns-in_err-tell-clause-cuts
 returns-in_err-tell-clause-cuts g c = λ shown certain.

@@ -6,7 +6,7 @@ use Rattle.bl_script.specs.Parsing.{parsed}
 use Rattle.bl_shell.specs.declared.stop.Stop.TheVariants as stop
 use Rattle.bl_shell.specs.Causes.{IsSilent}
 use Rattle.bl_shell.specs.Machine.{orders, orders_of}
-use Rattle.bl_shell.proofs.OnOk.{each_err}
+use Rattle.bl_shell.proofs.TellLemmas.{each_err}
 use Rattle.bl_shell.proofs.CarriedLemmas.{line_obeyed, line_broken, line_faltered, line_full, line_cuts, refused_cuts, cuts_so_far, orders_here, broken}
 use Rattle.bl_shell.proofs.CutLemmas.{cut_of_given}
 use Rattle.bl_shell.proofs.serve.end_line.Goals as goal

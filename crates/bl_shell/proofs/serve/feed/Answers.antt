@@ -10,7 +10,7 @@ use Rattle.bl_shell.specs.Cuts.{Stops}
 use Rattle.bl_shell.specs.Machine.{orders}
 use Rattle.bl_shell.specs.Synced.{CutOf}
 use Rattle.bl_shell.specs.Telling.{HasBegun, HasFaltered}
-use Rattle.bl_shell.proofs.OnOk.{each_err}
+use Rattle.bl_shell.proofs.TellLemmas.{each_err}
 use Rattle.bl_shell.proofs.CarriedLemmas.{pushed, broken, cuts_so_far}
 use Rattle.bl_shell.proofs.PieceLemmas.{line_more, line_follows, rest_follows, piece_ends}
 use Rattle.bl_store.proofs.OtherLemmas.{others_then}

@@ -4,7 +4,7 @@ use Rattle.bl_site.specs.Disk.{folder_of}
 use Rattle.bl_shell.specs.declared.stop.Stop.TheVariants as stop
 use Rattle.bl_shell.specs.Causes.{IsSilent}
 use Rattle.bl_shell.specs.Telling.{HasRun}
-use Rattle.bl_shell.proofs.OnOk.{each_err}
+use Rattle.bl_shell.proofs.TellLemmas.{each_err}
 use Rattle.bl_shell.proofs.EndLemmas.{has_run, all_begun, is_kept, last_cuts}
 use Rattle.bl_shell.proofs.StayLemmas.{log_is_there}
 use Rattle.bl_shell.proofs.TopLemmas.{stop_not_tell}

@@ -1,5 +1,5 @@
 use Rattle.std.proofs.Common.{◌≡◌, ℕ, ◌≤◌, List, [], ◌++◌, ◌∙◌, ap, sym, subst, refl, append_assoc, append-nil, arith, take, length, length-append, length-take, Err}
-use Rattle.std.proofs.lemmas.Result.{err_from_is_err_and}
+use Rattle.std.proofs.lemmas.Result.{err_from_is_err_and, on_ok_weaker, IfErr-weaker}
 use Rattle.bl_shell.specs.declared.stop.Stop.TheVariants as stop
 use Rattle.bl_shell.specs.Causes.{IsSilent}
 use Rattle.bl_shell.specs.Telling.{HasRun, HasBegun, HasFaltered}
@@ -8,7 +8,7 @@ use Rattle.bl_shell.specs.Machine.{orders}
 use Rattle.bl_shell.specs.Synced.{CutOf}
 use Rattle.bl_site.specs.Calls.{LeavesOnly}
 use Rattle.bl_site.specs.Disk.{folder_of}
-use Rattle.bl_shell.proofs.OnOk.{on_ok, if_err, each_err}
+use Rattle.bl_shell.proofs.TellLemmas.{each_err}
 use Rattle.bl_shell.proofs.CarriedLemmas.{starts, broken, taken, cut_at_start, cuts_so_far}
 use Rattle.bl_shell.proofs.MomentLemmas.{still}
 use Rattle.bl_store.proofs.OtherLemmas.{others_then}
@@ -70,7 +70,7 @@ returns-in_err-count-clause-taken g c =
     ))
 
 pub returns-then-count-eq0-clause-ok : goal.returns-then-count-eq0-clause-ok
-returns-then-count-eq0-clause-ok g c = λ shown known. on_ok c.finish.result _ _ (λ ok began folder begins s.
+returns-then-count-eq0-clause-ok g c = λ shown known. on_ok_weaker c.finish.result (λ ok began folder begins s.
     let i = c.reads.invariant.eaten shown in
     let none : g.R.Source.left c.reads.script ≡ [] = c.in_ok-count.ensures.end known (omega (arith, c.requires.some)) c.if-count-eq0.true in
     let all : i.0 ≡ g.R.Source.left c.args.script.now = sym (append-nil i.0) ∙ ap (λ x. i.0 ++ x) (sym none) ∙ i.1.1 known in
@@ -79,7 +79,7 @@ returns-then-count-eq0-clause-ok g c = λ shown known. on_ok c.finish.result _ _
     (c.finish.ensures.ok shown)
 
 pub returns-then-count-eq0-clause-front : goal.returns-then-count-eq0-clause-front
-returns-then-count-eq0-clause-front g c = λ shown known. if_err c.finish.result _ _ (λ e front silent began folder begins s.
+returns-then-count-eq0-clause-front g c = λ shown known. IfErr-weaker c.finish.result _ _ (λ e front silent began folder begins s.
     let i = c.reads.invariant.eaten shown in
     let none : g.R.Source.left c.reads.script ≡ [] = c.in_ok-count.ensures.end known (omega (arith, c.requires.some)) c.if-count-eq0.true in
     let all : i.0 ≡ g.R.Source.left c.args.script.now = sym (append-nil i.0) ∙ ap (λ x. i.0 ++ x) (sym none) ∙ i.1.1 known in
@@ -164,7 +164,7 @@ returns-clause-cuts g c = λ shown known began folder s.
     subst P (i.1.1 known) (cuts_so_far g.S.Site.certain g.S.Site.clock g.S.Site.left_since began folder (g.S.Site.told c.args.site.now) i.0 _ _ _ _ c.args.site.now c.reads.site (i.1.0 began folder s) (g.R.Source.left c.reads.script))
 
 pub returns-then-count-eq0-clause-kept : goal.returns-then-count-eq0-clause-kept
-returns-then-count-eq0-clause-kept g c = λ shown known. on_ok c.finish.result _ _ (λ ok began folder begins s.
+returns-then-count-eq0-clause-kept g c = λ shown known. on_ok_weaker c.finish.result (λ ok began folder begins s.
     let i = c.reads.invariant.eaten shown in
     let none : g.R.Source.left c.reads.script ≡ [] = c.in_ok-count.ensures.end known (omega (arith, c.requires.some)) c.if-count-eq0.true in
     let all : i.0 ≡ g.R.Source.left c.args.script.now = sym (append-nil i.0) ∙ ap (λ x. i.0 ++ x) (sym none) ∙ i.1.1 known in

@@ -1,5 +1,5 @@
 use Rattle.std.proofs.Common.{◌≡◌, ℕ, List, [], ◌∙◌, ap, sym, subst, refl, inl, inr, append-nil, arith, Err}
-use Rattle.std.proofs.lemmas.Result.{err_from_is_err_and}
+use Rattle.std.proofs.lemmas.Result.{err_from_is_err_and, on_ok_weaker, IfErr-weaker}
 use Rattle.bl_site.specs.Disk.{folder_of}
 use Rattle.bl_site.proofs.Moments.{widened, cut_of_only}
 use Rattle.bl_store.specs.declared.error.StoreErr.TheVariants as store
@@ -9,7 +9,6 @@ use Rattle.bl_shell.specs.Cuts.{CutPast, FromSomeMoment, StopsBeforeScript}
 use Rattle.bl_shell.specs.Machine.{orders}
 use Rattle.bl_shell.specs.Telling.{HasRun, HasTaken, HasBegun, HasFaltered}
 use Rattle.bl_shell.proofs.CrashLemmas.{failed_behind, opened_behind, unopened_behind, opened_now, opened_past, opened_then, opened_stops, unopened}
-use Rattle.bl_shell.proofs.OnOk.{on_ok, if_err}
 use Rattle.bl_shell.proofs.TopLemmas.{began_of, not_opened, unasked, begins_open, starts_open, stands_open, opening_stops, stop_full, stop_corrupt, stop_not_tell}
 use Rattle.bl_store.proofs.OtherLemmas.{others_then, same_no_next}
 use Rattle.bl_shell.proofs.WholeLemmas.{whole_disk}
@@ -56,7 +55,7 @@ returns-clause-done g c = λ shown known.
     let folder = folder_of (g.S.Site.disk c.args.site.now) in
     let disk = g.S.Site.disk c.open_site.new.site in
     let P : List ℕ → Type 0 = λ t. HasRun folder (folder_of (g.S.Site.disk c.serve.new.site)) (g.R.Source.left c.args.script.now) t (g.S.Site.told c.serve.new.site) in
-    on_ok c.serve.result _ _ (λ ok. subst P (c.in_ok-store.ensures.told shown)
+    on_ok_weaker c.serve.result (λ ok. subst P (c.in_ok-store.ensures.told shown)
     (ok (began_of folder c.in_ok-store.store disk o) folder (begins_open folder c.in_ok-store.store disk o c.batches_make_the_map.ensures) (starts_open folder c.in_ok-store.store disk o c.in_ok-store.ensures.usable)))
     (c.serve.ensures.ok shown known)
 
@@ -65,7 +64,7 @@ returns-clause-taken g c = λ shown known.
     let o = c.in_ok-store.ensures.opened shown in
     let folder = folder_of (g.S.Site.disk c.args.site.now) in
     let disk = g.S.Site.disk c.open_site.new.site in
-    if_err c.serve.result _ _ (λ e taken reading.
+    IfErr-weaker c.serve.result _ _ (λ e taken reading.
     let t = taken reading (began_of folder c.in_ok-store.store disk o) folder (begins_open folder c.in_ok-store.store disk o c.batches_make_the_map.ensures) (starts_open folder c.in_ok-store.store disk o c.in_ok-store.ensures.usable) in
     let P : List ℕ → Type 0 = λ told. HasTaken folder (folder_of (g.S.Site.disk c.serve.new.site)) t.0 told (g.S.Site.told c.serve.new.site) in
     (t.0, t.1, t.2, subst P (c.in_ok-store.ensures.told shown) t.3))
@@ -77,7 +76,7 @@ returns-clause-front g c = λ shown known.
     let folder = folder_of (g.S.Site.disk c.args.site.now) in
     let disk = g.S.Site.disk c.open_site.new.site in
     let P : List ℕ → Type 0 = λ told. HasBegun folder (g.R.Source.left c.args.script.now) told (g.S.Site.told c.serve.new.site) in
-    if_err c.serve.result _ _ (λ e front silent. inr (subst P (c.in_ok-store.ensures.told shown)
+    IfErr-weaker c.serve.result _ _ (λ e front silent. inr (subst P (c.in_ok-store.ensures.told shown)
     (front silent (began_of folder c.in_ok-store.store disk o) folder (begins_open folder c.in_ok-store.store disk o c.batches_make_the_map.ensures) (starts_open folder c.in_ok-store.store disk o c.in_ok-store.ensures.usable))))
     (c.serve.ensures.front shown known)
 
@@ -95,7 +94,7 @@ returns-clause-kept g c = λ shown known.
     let o = c.in_ok-store.ensures.opened shown in
     let folder = folder_of (g.S.Site.disk c.args.site.now) in
     let disk = g.S.Site.disk c.open_site.new.site in
-    on_ok c.serve.result _ _ (λ ok. ok (began_of folder c.in_ok-store.store disk o) folder (begins_open folder c.in_ok-store.store disk o c.batches_make_the_map.ensures)
+    on_ok_weaker c.serve.result (λ ok. ok (began_of folder c.in_ok-store.store disk o) folder (begins_open folder c.in_ok-store.store disk o c.batches_make_the_map.ensures)
     (starts_open folder c.in_ok-store.store disk o c.in_ok-store.ensures.usable)) (c.serve.ensures.kept shown known)
 
 pub returns-clause-cuts : goal.returns-clause-cuts
