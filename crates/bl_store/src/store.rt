@@ -12,7 +12,7 @@ ghost use Rattle.bl_wal.specs.Held.{Batches};
 ghost use Rattle.bl_store.specs.Damage.{IsDamaged};
 ghost use Rattle.bl_store.specs.Folders.{Stands};
 ghost use Rattle.bl_store.specs.Pairs.{pairs_between};
-ghost use Rattle.bl_store.specs.Stored.{StandsOn, next_batch, next_record, wrote, Carries, Opens, MayAppend, MayHold, KeepsAllBut, KeepsOthers, HasNextLog, IsOpened};
+ghost use Rattle.bl_store.specs.Stored.{map_in, StandsOn, next_batch, next_record, wrote, Carries, Opens, MayAppend, MayHold, KeepsAllBut, KeepsOthers, HasNextLog, IsOpened};
 ghost use Rattle.bl_store.specs.Cuts.{BeforeBarrier, FindsOpened, LeavesFirst};
 ghost use Rattle.bl_store.specs.Causes.{IsOpening, IsWriting, IsEnding, IsUntouched};
 
@@ -199,9 +199,11 @@ impl Store {
         Ok(())
     }
 
-    /// Lets the map go, so that its memory is free before the folder is opened again. The store is broken from then on.
+    /// Lets the map go, so that its memory is free before the folder is opened again. The store is broken from then on, and its map
+    /// empty.
     pub fn let_go(&mut self, alloc: Global)
-        ensures { self.new.broken ≡ true }
+        ensures broken { self.new.broken ≡ true }
+        ensures gone { self.new ≡ record self.old { now = map_in []; broken = true } }
     {
         self.broken = true;
         self.map = BTreeMap::new(alloc);
