@@ -5,7 +5,7 @@ ghost use Rattle.bl_main.specs.Ends.{EndsAt};
 
 use bl_log::EndCause;
 use bl_names::{FileName, parse_name};
-use bl_records::{NextRecord, ReadErr, RecordReader};
+use bl_records::{NextRecord, RecordErr, RecordReader};
 use bl_site::{Site, SiteErr};
 use std::alloc::{AllocError, AllocFailed, Global};
 use std::collections::BTreeMap;
@@ -74,11 +74,11 @@ impl From<SiteErr> for LookErr {
     }
 }
 
-impl From<ReadErr> for LookErr {
-    fn from(error: ReadErr) -> LookErr {
+impl From<RecordErr> for LookErr {
+    fn from(error: RecordErr) -> LookErr {
         match error {
-            ReadErr::OutOfMemory => LookErr::OutOfMemory,
-            ReadErr::Disk => LookErr::Disk,
+            RecordErr::OutOfMemory => LookErr::OutOfMemory,
+            RecordErr::Disk => LookErr::Disk,
         }
     }
 }
