@@ -14,8 +14,8 @@ pub data Event : Type 0 where
   Listing : Option (List (Option Name)) → Event
   Opened : Name → Option ℕ → Event
   Made : Name → Option ℕ → Event
-  -- from which offset, and which bytes
-  Read : ℕ → ℕ → Option (List ℕ) → Event
+  -- from which offset, how many bytes at most, and which bytes
+  Read : ℕ → ℕ → ℕ → Option (List ℕ) → Event
   Wrote : ℕ → List ℕ → Bool → Event
   SyncedFile : ℕ → Bool → Event
   SyncedFolder : Bool → Event
