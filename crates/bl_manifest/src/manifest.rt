@@ -81,7 +81,7 @@ impl Manifest {
         Ok(Manifest { number, records })
     }
 
-    /// Appends an edit, which is in the bounds of the format, as one record, and then syncs the file: at Ok every cut reads the
+    /// Appends an edit, which is in the bounds of the format, as one record, and then syncs the file: at Ok, where no name call is in doubt, every cut reads the
     /// edit. The manifest is in the folder, and no call of it has failed.
     ///
     /// Errors: `Disk`, after which the edit may be there or not, and what reads behind the synced bytes are any bytes, at most as

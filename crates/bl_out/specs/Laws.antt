@@ -29,7 +29,7 @@ ValuesAreReadAt = (bytes : List ℕ) (rs : List Record) (key : List ℕ) (index 
 abbrev pub ValuesInAnyOrder : Type 0
 ValuesInAnyOrder = (es fs : List Revision) (seq : ℕ) (key : List ℕ) → IsPermutation es fs → IsDistinct same_revision es → value_at es seq key ≡ value_at fs seq key
 
--- nor does it matter to that they occur once, nor to whether a record is referenced twice.
+-- that none occurs twice is so in each order, and that no record is referenced twice too.
 abbrev pub OnceInAnyOrder : Type 0
 OnceInAnyOrder = (es fs : List Revision) → IsPermutation es fs → IsDistinct same_revision es → IsDistinct same_revision fs
 

@@ -26,12 +26,13 @@ abbrev pub SyncedRemnantsAreWhole : Type 0
 SyncedRemnantsAreWhole = (file : File) (payloads : List (List ℕ)) (bytes : List ℕ)
     → HasWritten file payloads (length payloads) → IsRemnant file bytes → bytes ≡ written 0 payloads
 
--- So it is with the file in each cut of the folder.
+-- In each cut of the folder the file reads as the first of its records so, unless such a checksum matches.
 abbrev pub CutFilesReadAsFronts : Type 0
 CutFilesReadAsFronts = (disk : Disk) (writer : WrittenFile) (file : FileName) (payloads : List (List ℕ)) (synced : ℕ) (told : List ℕ) (c : Cut)
     → writer.name ≡ name_of file → HoldsRecords disk writer payloads synced → IsCut disk told c → IsOnlyWritten c.folder c.written file
     → ReadsFirst c.folder writer.name payloads synced
 
+-- Each cut leaves a file whose records are all synced as it was written.
 abbrev pub SyncedFilesAreLeft : Type 0
 SyncedFilesAreLeft = (disk : Disk) (writer : WrittenFile) (payloads : List (List ℕ)) (told : List ℕ) (c : Cut)
     → HoldsRecords disk writer payloads (length payloads) → IsCut disk told c → c.folder writer.name ≡ Some (written 0 payloads)

@@ -27,7 +27,7 @@ pub record Tears (name : Name) (bytes : List ℕ) (old new : Disk) : Type 0 wher
   pub no_longer : length tail ≤ length (file.handed ++ bytes)
   pub puts : Puts name (record { read = file.front ++ tail; front = file.front; handed = file.handed ++ bytes }) old new
 
--- these bytes were handed over, and all that the file read may be on the disk
+-- these bytes were handed over: none of them is on the disk yet, or all are, behind all that the file read; how it reads now is not said
 pub record AppendsPartly (name : Name) (bytes : List ℕ) (old new : Disk) : Type 0 where
   pub file : File
   pub was : old name ≡ Some file

@@ -100,7 +100,7 @@ impl RecordWriter {
         ensures torn { S.shows → IsErrOf result RecordErr.Disk → AppendsAny self.old.name (layout self.old.place payload.now) (S.disk site.old) (S.disk site.new) }
         ensures keeps { S.shows → IsErrOf result RecordErr.OutOfMemory → KeepsDisk S.disk S.may_be S.certain site.old site.new }
 
-        // It holds one record more, also where the folder failed: then only some first bytes of it may read.
+        // It holds one record more, also where the folder failed: then any bytes may read in its place, at most as many.
         ensures holds { S.shows → (payloads : List (List ℕ)) (synced : ℕ) → HoldsRecords (S.disk site.old) self.old payloads synced
             → HoldsOneMore result (S.disk site.new) self.new payloads payload.now synced }
 
@@ -133,7 +133,7 @@ impl RecordWriter {
         Ok(())
     }
 
-    /// Syncs the file: every cut from now on keeps all that was appended. The file is in the folder, and no call of it has failed. It
+    /// Syncs the file: where no name call is in doubt, every cut from now on keeps all that was appended. The file is in the folder, and no call of it has failed. It
     /// takes no memory of its own.
     ///
     /// Errors: `Disk`, after which the bytes since the last sync may read as any others, at most as many, and a cut may leave what

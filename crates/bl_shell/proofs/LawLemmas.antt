@@ -1,10 +1,10 @@
 -- Worked cuts that no run may leave.
-use Rattle.std.proofs.Common.{◌≡◌, ◌≢◌, ◌⊎◌, inl, inr, ℕ, ◌≤◌, List, [], ◌∷◌, ◌++◌, length, take, get_or, codes, None, Some, refl, sym, ◌∙◌, ap, subst, arith, append-nil}
+use Rattle.std.proofs.Common.{◌≡◌, ◌≢◌, ◌⊎◌, inl, inr, ⊎_elim, ℕ, ◌≤◌, List, [], ◌∷◌, ◌++◌, length, take, get_or, codes, None, Some, refl, sym, ◌∙◌, ap, subst, arith, append-nil}
 use Rattle.std.specs.FinMap.{get, get-insert}
 use Rattle.std.specs.Cmp.Lexicographic.{nat_list_cmp_total}
 use Rattle.std.specs.List.{AllByRecursion}
 use Rattle.std.proofs.lemmas.List.{append_cancel_left, take_all}
-use Rattle.bl_site.specs.Disk.{Name, Folder}
+use Rattle.bl_site.specs.Disk.{Name, Folder, Cut}
 use Rattle.bl_entry.specs.Batches.{put_of}
 use Rattle.bl_entry.specs.Records.{batches_of}
 use Rattle.bl_entry.specs.Revisions.{Map, revisions_of, value_at}
@@ -17,7 +17,7 @@ use Rattle.bl_wal.specs.LogFile.{log_name}
 use Rattle.bl_store.specs.Logs.{HaveBatches, records_up_to, bytes_in}
 use Rattle.bl_store.specs.Folders.{LogStands}
 use Rattle.bl_store.specs.Laws.{BatchesAreOnce}
-use Rattle.bl_shell.specs.Cuts.{IsErrorFront}
+use Rattle.bl_shell.specs.Cuts.{IsErrorFront, CutStands}
 use Rattle.bl_shell.specs.Laws.{ToldSyncsAreKept, NoReplyIsBeforeTheBarrier}
 use Rattle.bl_shell.specs.Machine.{State, Write, Line, Step, IsHistory, reply_of, writes_of, after_writes, written_by}
 use Rattle.bl_shell.specs.Synced.{StandsAfter, whole_within, before_sync, synced}
@@ -34,11 +34,12 @@ no_e [] more bytes is none = let P : List ℕ → Type 0 = AllByRecursion (λ b.
 no_e (b ∷ front) more bytes is none = let P : List ℕ → Type 0 = AllByRecursion (λ x. x ≢ 101) in no_e front more (front ++ 101 ∷ more) refl (subst P (sym is) none).1
 
 pub no_reply_before : NoReplyIsBeforeTheBarrier
-no_reply_before disk told c is before =
-    let same : before.error ≡ ok_line = append_cancel_left told before.error ok_line (sym before.told_is ∙ is) in
+no_reply_before may_be folder told more c is before =
+    let same : before.error ≡ ok_line ++ more = append_cancel_left told before.error (ok_line ++ more) (sym before.told_is ∙ is) in
+    let first : get_or before.error 0 0 ≡ 111 = ap (λ l. get_or l 0 0) same in
     elim (error_begins before.error before.is_error) [
-      | inl none ↦ cc (none, same)
-      | inr some ↦ let first : 101 ≡ 111 = ap (λ l. get_or l 0 0) (sym some.1 ∙ same) in absurd (omega (arith, first))
+      | inl none ↦ let zero_ : get_or before.error 0 0 ≡ 0 = ap (λ l. get_or l 0 0) none in absurd (omega (arith, first, zero_))
+      | inr some ↦ let e : get_or before.error 0 0 ≡ 101 = ap (λ l. get_or l 0 0) some.1 in absurd (omega (arith, first, e))
     ]
 
 -- the two lines
@@ -98,8 +99,8 @@ not_empty once folder now writes none is s =
     let there : Some (codes "1") ≡ None = sym (has_key now) ∙ empty_map once folder _ none (subst P is s) in
     cc there
 
-pub syncs_kept : BatchesAreOnce → ToldSyncsAreKept
-syncs_kept once c told none s =
+stands_not : BatchesAreOnce → (c : Cut) → c.told ≡ ok_line ++ ok_line → ((name : Name) → c.folder name ≡ None) → CutStands (λ _. None) (Go (Put (codes "a") (codes "1")) ∷ Go Sync ∷ []) [] c → ⊥
+stands_not once c told none s =
     let all : s.replied ++ s.error ≡ ok_line ++ ok_line = sym s.told_is ∙ told in
     let letters : AllByRecursion (λ b. b ≢ 101) (ok_line ++ ok_line) = (λ e. omega (arith, e), (λ e. omega (arith, e), (λ e. omega (arith, e), (λ e. omega (arith, e), (λ e. omega (arith, e), (λ e. omega (arith, e), tt)))))) in
     elim (error_begins s.error s.is_error) [
@@ -117,3 +118,6 @@ syncs_kept once c told none s =
           let short : length (written_by k.history) ≤ after.writes = omega (arith, some, ap length written) in
           not_empty once c.folder s.began.now (take after.writes (written_by k.history)) none (take_all after.writes (written_by k.history) short ∙ written) after.stands
     ]
+
+pub syncs_kept : BatchesAreOnce → ToldSyncsAreKept
+syncs_kept once may_be c told none cut = ⊎_elim (no_reply_before may_be (λ _. None) [] ok_line c told) (stands_not once c told none) cut

@@ -18,7 +18,7 @@ pub record IsStartOf (folder : Folder) (began : Start) : Type 0 where
   pub map_is : IsMapAt (revisions_of began.batches) began.last began.now
   pub next : IsNext folder began.number
 
--- The folder left has logs of the batches found and, behind them, one batch for each write of these lines, and they make this map. The log in use is the last of those made, one for each opening; all other files are as they were.
+-- The folder left has logs of the batches found and, behind them, one batch for each write of these lines, and they make this map. The log in use is the last of those made, one for each opening; all files but the logs made are as they were.
 pub record LeavesLogs (folder folder_after : Folder) (began : Start) (history : List Line) (now : Map) : Type 0 where
   pub stands : Stands folder_after (began.batches ++ numbered (began.last + 1) (written_by history)) (began.last + operations_in (written_by history))
   pub map_is : IsMapAt (revisions_of (began.batches ++ numbered (began.last + 1) (written_by history))) (began.last + operations_in (written_by history)) now
@@ -59,7 +59,7 @@ pub record HasBegun (folder : Folder) (script told told_after : List ℕ) : Type
   pub front : TellsFront (told_by history) told told_after
   pub fits : Fits began (whole_within (length front.front) history)
 
--- The reply to a line could not be told whole: those to the lines before it were told, and a front of it. The line was obeyed all the same, and the folder left stands for the map after it.
+-- The telling of a line's reply failed: those to the lines before it were told, and a front of it, perhaps all. The line was obeyed all the same, and the folder left stands for the map after it.
 pub record HasFaltered (folder folder_after : Folder) (script told told_after : List ℕ) : Type 0 where
   pub began : Start
   pub begins : IsStartOf folder began

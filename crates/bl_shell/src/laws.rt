@@ -4,14 +4,15 @@ ghost use Rattle.bl_shell.specs.Laws.{NoReplyIsBeforeTheBarrier, ToldSyncsAreKep
 
 use bl_store::batches_are_once;
 
-/// A cut that has told the reply to a `sync`, and leaves no file of what was written before it, is none that `run` allows.
+/// One such cut: on an empty folder `put a =1` and `sync` were answered, and no file is left. No clause of `run` on its cuts
+/// allows it.
 pub fn told_syncs_are_kept()
     ensures { ToldSyncsAreKept }
 {
     batches_are_once();
 }
 
-/// A cut before the barrier of the opening has told no reply.
+/// A cut that has told the reply `ok` is none before the barrier of the opening.
 pub fn no_reply_is_before_the_barrier()
     ensures { NoReplyIsBeforeTheBarrier }
 {}

@@ -166,11 +166,13 @@ pub fn run<R: Source, S: Site>(
     ensures done { S.shows → R.shows → result ≡ Status.Done → HasRun (folder_of (S.disk site.old)) (folder_of (S.disk site.new)) (R.left script.old) (S.told site.old) (S.told site.new) }
     ensures ended { R.shows → result ≡ Status.Done → R.left script.new ≡ [] }
 
-    // At `ReadFault` and `Long` the replies to all whole lines among the bytes taken are told, none of which passes a limit, and the folder left stands for the map after them.
+    // At `ReadFault` and `Long` the replies to all whole lines among the bytes taken are told, none of which passes a limit, and
+    // the folder left stands for the map after them.
     ensures taken { S.shows → R.shows → (result ≡ Status.ReadFault) ⊎ (result ≡ Status.Long) → (taken : List ℕ) × (taken ++ R.left script.new ≡ R.left script.old) × (result ≡ Status.Long → 2 ^ 40 < length taken)
         × HasTaken (folder_of (S.disk site.old)) (folder_of (S.disk site.new)) taken (S.told site.old) (S.told site.new) }
 
-    // At `Full` those to the lines before the one in hand, and the line that says which limit it is the first to pass. The folder left stands for the map after the lines before it, and no cut
+    // At `Full` those to the lines before the one in hand, and the line that says which limit it is the first to pass. The
+    // folder left stands for the map after the lines before it, and no cut
     // holds what that line would write.
     ensures full { S.shows → R.shows → result ≡ Status.Full
         → HasStopped (S.may_be site.old) (folder_of (S.disk site.old)) (folder_of (S.disk site.new)) (R.left script.old) (S.told site.old) (S.told site.new) (LeavesOnly S.clock S.left_since site.old site.new) }
@@ -179,29 +181,36 @@ pub fn run<R: Source, S: Site>(
     ensures corrupt { S.shows → result ≡ Status.Corrupt → (name : Name) × ((place : ℕ) × IsDamaged (folder_of (S.disk site.old)) name place × (S.told site.new ≡ S.told site.old ++ corrupt_line name place)) }
     ensures same { S.shows → result ≡ Status.Corrupt → folder_of (S.disk site.new) ≡ folder_of (S.disk site.old) }
 
-    // At `TellFault`, `DiskFault` and `OutOfMemory` nothing is told, or a front of the replies, in which no whole reply is to a line that passes a limit; at `TellFault` perhaps the replies and a front of a last line.
+    // At `TellFault`, `DiskFault` and `OutOfMemory` nothing is told, or a front of the replies, in which no whole reply is to a
+    // line that passes a limit; at `TellFault` perhaps the replies and a front of a last line.
     ensures front { S.shows → R.shows → (result ≡ Status.TellFault) ⊎ (result ≡ Status.DiskFault) ⊎ (result ≡ Status.OutOfMemory)
         → (S.told site.new ≡ S.told site.old) ⊎ HasBegun (folder_of (S.disk site.old)) (R.left script.old) (S.told site.old) (S.told site.new)
         ⊎ ((result ≡ Status.TellFault) × HasEnded (folder_of (S.disk site.old)) (folder_of (S.disk site.new)) (R.left script.old) (S.told site.old) (S.told site.new)) }
 
-    // At `TellFault` the folder left stands for the map after all lines obeyed: those whose replies are told, and the one whose reply could not be told whole; or a line that ends the run could not be told.
+    // At `TellFault` the folder left stands for the map after all lines obeyed: those whose replies are told, and the one whose
+    // reply could not be told whole; or a line that ends the run could not be told.
     ensures faltered { S.shows → R.shows → result ≡ Status.TellFault → HasFaltered (folder_of (S.disk site.old)) (folder_of (S.disk site.new)) (R.left script.old) (S.told site.old) (S.told site.new)
         ⊎ HasEnded (folder_of (S.disk site.old)) (folder_of (S.disk site.new)) (R.left script.old) (S.told site.old) (S.told site.new) }
 
-    // A power cut at any moment of the run, whatever it answers: before the opening's barrier a cut leaves what one before the run might have left. Behind it, unless a torn
-    // fragment's checksum matches by chance, the folder left stands for the map after a prefix of the writes that holds each one acknowledged as synced, and none that passes the limit.
+    // A power cut at any moment of the run, whatever it answers: before the opening's barrier a cut leaves what one before the
+    // run might have left. Behind it, unless a torn
+    // fragment's checksum matches by chance, the folder left stands for the map after a prefix of the writes that holds each one
+    // acknowledged as synced, and none that passes the limit.
     ensures cuts { S.shows → R.shows → LeavesOnly S.clock S.left_since site.old site.new (CutOfRun (S.may_be site.old) (folder_of (S.disk site.old)) (orders (R.left script.old)) (S.told site.old)) }
 
-    // The barrier is over once the next log is made, before the script is read: where no name call was in doubt as the run began, a cut that finds this log is one behind it.
+    // The barrier is over once the next log is made, before the script is read: where no name call was in doubt as the run
+    // began, a cut that finds this log is one behind it.
     ensures behind { S.shows → R.shows → S.certain site.old → LeavesOnly S.clock S.left_since site.old site.new
         (λ c. HasNextLog (folder_of (S.disk site.old)) c.written → CutStands (folder_of (S.disk site.old)) (orders (R.left script.old)) (S.told site.old) c) }
 
-    // So it is from some moment on, whatever was in doubt as the run began, once a byte of the script was taken or the status is one of a run that read it, and where the next log is there and no name
+    // So it is from some moment on, whatever was in doubt as the run began, once a byte of the script was taken or the status is
+    // one of a run that read it, and where the next log is there and no name
     // call is in doubt.
     ensures past { S.shows → R.shows → IsPastOpening result (R.left script.old) (R.left script.new) ⊎ (HasNextLog (folder_of (S.disk site.old)) (S.disk site.new) × S.certain site.new)
         → FromSomeMoment S.clock S.left_since site.old site.new (CutStands (folder_of (S.disk site.old)) (orders (R.left script.old)) (S.told site.old)) }
 
-    // Then, and also where the next log is there and a name call is in doubt: wherever a log has data, no log of a lower number has an unsynced byte.
+    // Then, and also where the next log is there and a name call is in doubt: wherever a log has data, no log of a lower number
+    // has an unsynced byte.
     ensures whole { S.shows → R.shows → IsPastOpening result (R.left script.old) (R.left script.new) ⊎ HasNextLog (folder_of (S.disk site.old)) (S.disk site.new) → AreWhole (S.disk site.new) }
 
     // The folder as it reads is one that such a cut leaves.

@@ -90,7 +90,7 @@ impl Wal {
         ensures memory { S.shows → IsErrOf result WalErr.OutOfMemory → S.disk site.new ≡ S.disk site.old }
         ensures keeps { S.shows → IsErrOf result WalErr.OutOfMemory → KeepsDisk S.disk S.may_be S.certain site.old site.new }
 
-        // It holds one batch more, also where the folder failed: then only some first bytes of it may read.
+        // It holds one batch more, also where the folder failed: then any bytes may read in its place, at most as many.
         ensures holds { S.shows → (batches : Batches) (synced : ℕ) → HoldsBatches (S.disk site.old) self.old batches synced
             → HoldsOneMore result (S.disk site.new) self.new batches (record { first = first; operations = batch.now }) synced }
 
@@ -121,7 +121,7 @@ impl Wal {
         Ok(())
     }
 
-    /// Syncs the log: every cut from now on keeps all that was appended. The log is in the folder, and no call of it has failed. It
+    /// Syncs the log: where no name call is in doubt, every cut from now on keeps all that was appended. The log is in the folder, and no call of it has failed. It
     /// takes no memory of its own.
     ///
     /// Errors: `Disk`, after which the bytes since the last sync may read as any others, at most as many, and a cut may leave what
