@@ -2,7 +2,7 @@
 ghost use Rattle.std.specs.Prelude.{◌≡◌, ◌≢◌, ◌≤◌, ◌<◌, ◌∷◌, [], List, Option, length, take, map, true, false, IfOk, IfErr, IfSome, IsTrue, IsErr, OnOk, slice_index_or};
 ghost use Rattle.std.specs.String.{string_bytes};
 ghost use Rattle.bl_site.specs.Disk.{Name};
-ghost use Rattle.bl_site_host.specs.Events.{Event, Looked, Listing, Read, Wrote, SyncedFile, SyncedFolder, Renamed, Removed, SawNoOther, IsNewest, IsOn, IsMade, IsOnDisk, files_of, found_of};
+ghost use Rattle.bl_site_host.specs.Events.{Event, Looked, Listing, Read, Wrote, SyncedFile, SyncedFolder, Renamed, Removed, SawNoOther, IsNewest, IsOn, IsMade, IsOnDisk, StaysMarked, files_of, found_of};
 ghost use Rattle.bl_site_host.specs.Changes.{ChangesNone, Changes, IsMaking, IsWriting, IsRenaming, IsRemoving};
 ghost use Rattle.bl_site_host.specs.declared.faults.Fault.TheVariants.{Memory};
 ghost use Rattle.bl_site_host.specs.Handles.{StaysSound, IsSound, OldestIsLetGo, IsPlaceOf};
@@ -38,6 +38,7 @@ impl<S: System + Drop> Folder<S> {
         ensures lost { self.new.lost ≡ self.old.lost }
         ensures seen { S.shows → IfOk result (λ length. S.calls self.new.system ≡ Looked name.now (Some (found_of length)) ∷ S.calls self.old.system) }
         ensures changes { S.shows → ChangesNone (S.calls self.old.system) (S.calls self.new.system) }
+        ensures marked { S.shows → StaysMarked (S.calls self.old.system) self.old.lost (S.calls self.new.system) self.new.lost }
         ensures sound { S.shows → StaysSound S.id (S.calls self.old.system) self.old.handles.open.items (S.calls self.new.system) self.new.handles.open.items }
     {
         match self.system.look(name)? {
@@ -52,6 +53,7 @@ impl<S: System + Drop> Folder<S> {
         ensures all { S.shows → IfOk result (λ names. (entries : List (Option Name)) × (S.calls self.new.system ≡ Listing (Some entries) ∷ S.calls self.old.system) × (map string_bytes names.items ≡ files_of entries)) }
         ensures changes { S.shows → ChangesNone (S.calls self.old.system) (S.calls self.new.system) }
         ensures stays_lost { IsTrue self.old.lost → IsTrue self.new.lost }
+        ensures marked { S.shows → StaysMarked (S.calls self.old.system) self.old.lost (S.calls self.new.system) self.new.lost }
         ensures sound { S.shows → StaysSound S.id (S.calls self.old.system) self.old.handles.open.items (S.calls self.new.system) self.new.handles.open.items }
     {
         let entries = self.system.list()?;
@@ -70,6 +72,7 @@ impl<S: System + Drop> Folder<S> {
         ensures absent { S.shows → result ≡ Ok None → IsNewest (Looked name.now (Some Found.Nothing)) (S.calls self.new.system) }
         ensures changes { S.shows → ChangesNone (S.calls self.old.system) (S.calls self.new.system) }
         ensures stays_lost { IsTrue self.old.lost → IsTrue self.new.lost }
+        ensures marked { S.shows → StaysMarked (S.calls self.old.system) self.old.lost (S.calls self.new.system) self.new.lost }
         ensures sound { S.shows → StaysSound S.id (S.calls self.old.system) self.old.handles.open.items (S.calls self.new.system) self.new.handles.open.items }
     {
         let Some(at) = self.opened(name, false)? else {
@@ -84,6 +87,7 @@ impl<S: System + Drop> Folder<S> {
             → OnOk result (IsOn name.now (λ file. Wrote file bytes.now true) (S.calls self.new.system)) }
         ensures changes { S.shows → Changes (IsWriting bytes.now) result (S.calls self.old.system) (S.calls self.new.system) }
         ensures stays_lost { IsTrue self.old.lost → IsTrue self.new.lost }
+        ensures marked { S.shows → StaysMarked (S.calls self.old.system) self.old.lost (S.calls self.new.system) self.new.lost }
         ensures sound { S.shows → StaysSound S.id (S.calls self.old.system) self.old.handles.open.items (S.calls self.new.system) self.new.handles.open.items }
     {
         let Some(at) = self.opened(name, true)? else {
@@ -100,6 +104,7 @@ impl<S: System + Drop> Folder<S> {
             → OnOk result (IsOn name.now (λ file. SyncedFile file true) (S.calls self.new.system)) }
         ensures changes { S.shows → ChangesNone (S.calls self.old.system) (S.calls self.new.system) }
         ensures stays_lost { IsTrue self.old.lost → IsTrue self.new.lost }
+        ensures marked { S.shows → StaysMarked (S.calls self.old.system) self.old.lost (S.calls self.new.system) self.new.lost }
         ensures sound { S.shows → StaysSound S.id (S.calls self.old.system) self.old.handles.open.items (S.calls self.new.system) self.new.handles.open.items }
     {
         let Some(at) = self.opened(name, false)? else {
@@ -117,6 +122,7 @@ impl<S: System + Drop> Folder<S> {
         ensures made { S.shows → OnOk result (IsMade name.now (S.calls self.new.system)) }
         ensures changes { S.shows → Changes (IsMaking name.now) result (S.calls self.old.system) (S.calls self.new.system) }
         ensures stays_lost { IsTrue self.old.lost → IsTrue self.new.lost }
+        ensures marked { S.shows → StaysMarked (S.calls self.old.system) self.old.lost (S.calls self.new.system) self.new.lost }
         ensures sound { S.shows → StaysSound S.id (S.calls self.old.system) self.old.handles.open.items (S.calls self.new.system) self.new.handles.open.items }
     {
         let replaces = self.is_there(name)?;
@@ -132,6 +138,7 @@ impl<S: System + Drop> Folder<S> {
         ensures renamed { S.shows → OnOk result (IsOnDisk (Renamed from.now to.now true) (S.calls self.new.system)) }
         ensures changes { S.shows → Changes (IsRenaming from.now to.now) result (S.calls self.old.system) (S.calls self.new.system) }
         ensures stays_lost { IsTrue self.old.lost → IsTrue self.new.lost }
+        ensures marked { S.shows → StaysMarked (S.calls self.old.system) self.old.lost (S.calls self.new.system) self.new.lost }
         ensures sound { S.shows → StaysSound S.id (S.calls self.old.system) self.old.handles.open.items (S.calls self.new.system) self.new.handles.open.items }
     {
         if !self.is_there(from)? {
@@ -149,6 +156,7 @@ impl<S: System + Drop> Folder<S> {
         ensures removed { S.shows → OnOk result (IsOnDisk (Removed name.now true) (S.calls self.new.system)) }
         ensures changes { S.shows → Changes (IsRemoving name.now) result (S.calls self.old.system) (S.calls self.new.system) }
         ensures stays_lost { IsTrue self.old.lost → IsTrue self.new.lost }
+        ensures marked { S.shows → StaysMarked (S.calls self.old.system) self.old.lost (S.calls self.new.system) self.new.lost }
         ensures sound { S.shows → StaysSound S.id (S.calls self.old.system) self.old.handles.open.items (S.calls self.new.system) self.new.handles.open.items }
     {
         if !self.is_there(name)? {
@@ -165,6 +173,7 @@ impl<S: System + Drop> Folder<S> {
         ensures absent { S.shows → result ≡ Ok false → IsNewest (Looked name.now (Some Found.Nothing)) (S.calls self.new.system) }
         ensures lost { self.new.lost ≡ self.old.lost }
         ensures changes { S.shows → ChangesNone (S.calls self.old.system) (S.calls self.new.system) }
+        ensures marked { S.shows → StaysMarked (S.calls self.old.system) self.old.lost (S.calls self.new.system) self.new.lost }
         ensures sound { S.shows → StaysSound S.id (S.calls self.old.system) self.old.handles.open.items (S.calls self.new.system) self.new.handles.open.items }
     {
         Ok(self.length(name)?.is_some())
@@ -177,6 +186,7 @@ impl<S: System + Drop> Folder<S> {
         ensures changes { S.shows → ChangesNone (S.calls self.old.system) (S.calls self.new.system) }
         ensures stays_lost { IsTrue self.old.lost → IsTrue self.new.lost }
         ensures disk { IfErr result (λ fault. fault ≢ Memory) }
+        ensures marked { S.shows → StaysMarked (S.calls self.old.system) self.old.lost (S.calls self.new.system) self.new.lost }
         ensures sound { S.shows → StaysSound S.id (S.calls self.old.system) self.old.handles.open.items (S.calls self.new.system) self.new.handles.open.items }
     {
         let done = self.system.sync_folder();
@@ -189,6 +199,7 @@ impl<S: System + Drop> Folder<S> {
         ensures absent { S.shows → result ≡ Ok None → IsNewest (Looked name.now (Some Found.Nothing)) (S.calls self.new.system) }
         ensures lost { IsTrue self.old.lost → IsTrue self.new.lost }
         ensures changes { S.shows → ChangesNone (S.calls self.old.system) (S.calls self.new.system) }
+        ensures marked { S.shows → StaysMarked (S.calls self.old.system) self.old.lost (S.calls self.new.system) self.new.lost }
         ensures sound { S.shows → StaysSound S.id (S.calls self.old.system) self.old.handles.open.items (S.calls self.new.system) self.new.handles.open.items }
     {
         if let Some(at) = self.usable(name, appends) {
@@ -219,6 +230,7 @@ impl<S: System + Drop> Folder<S> {
         ensures absent { S.shows → result ≡ Ok None → IsNewest (Looked name.now (Some Found.Nothing)) (S.calls self.new.system) }
         ensures lost { self.new.lost ≡ self.old.lost }
         ensures changes { S.shows → ChangesNone (S.calls self.old.system) (S.calls self.new.system) }
+        ensures marked { S.shows → StaysMarked (S.calls self.old.system) self.old.lost (S.calls self.new.system) self.new.lost }
         ensures sound { S.shows → StaysSound S.id (S.calls self.old.system) self.old.handles.open.items (S.calls self.new.system) self.new.handles.open.items }
     {
         let key = String::from_str(self.alloc, name)?;
@@ -235,6 +247,7 @@ impl<S: System + Drop> Folder<S> {
         ensures full { S.shows → OnOk result (64 ≤ length self.old.handles.open.items
             → OldestIsLetGo S.id (S.calls self.old.system) self.old.handles.open.items (S.calls self.new.system) self.new.handles.open.items) }
         ensures changes { S.shows → ChangesNone (S.calls self.old.system) (S.calls self.new.system) }
+        ensures marked { S.shows → StaysMarked (S.calls self.old.system) self.old.lost (S.calls self.new.system) self.new.lost }
         ensures sound { S.shows → StaysSound S.id (S.calls self.old.system) self.old.handles.open.items (S.calls self.new.system) self.new.handles.open.items }
     {
         if self.handles.is_full() {
@@ -249,6 +262,7 @@ impl<S: System + Drop> Folder<S> {
         ensures synced { S.shows → OnOk result (0 < length self.old.handles.open.items
             → OldestIsLetGo S.id (S.calls self.old.system) self.old.handles.open.items (S.calls self.new.system) self.new.handles.open.items) }
         ensures changes { S.shows → ChangesNone (S.calls self.old.system) (S.calls self.new.system) }
+        ensures marked { S.shows → StaysMarked (S.calls self.old.system) self.old.lost (S.calls self.new.system) self.new.lost }
         ensures sound { S.shows → StaysSound S.id (S.calls self.old.system) self.old.handles.open.items (S.calls self.new.system) self.new.handles.open.items }
     {
         match self.handles.take_oldest() {
