@@ -1,7 +1,11 @@
 -- Where and why the reading of a log ends.
-use Rattle.std.specs.Prelude.{◌≡◌, ℕ, ◌%◌, ◌^◌, List, Option, Some}
+use Rattle.std.specs.Prelude.{◌≡◌, ◌≢◌, ◌⊎◌, ℕ, ◌%◌, ◌^◌, List, Option, None, Some}
+use Rattle.std.specs.String.{string_bytes}
+use Rattle.bl_site.specs.Disk.{Name}
 use Rattle.bl_log.specs.Log.{ending}
 use Rattle.bl_log.specs.declared.cause.EndCause.{EndCause}
+use Rattle.bl_log.specs.declared.cause.EndCause.TheVariants.{Finished}
+use Rattle.bl_main.specs.declared.logs.EarlyEnd.{EarlyEnd}
 
 -- the file is there, and its reading ends at this place, modulo 2 ^ 64, for this cause
 pub record EndsAt (file : Option (List ℕ)) (place : ℕ) (cause : EndCause) : Type 0 where
@@ -9,3 +13,8 @@ pub record EndsAt (file : Option (List ℕ)) (place : ℕ) (cause : EndCause) : 
   pub there : file ≡ Some bytes
   pub place_is : place ≡ (ending bytes).0 % 2 ^ 64
   pub cause_is : cause ≡ (ending bytes).1
+
+-- what is to be said of a file: nothing where it is not there or is read to its end, and else where its reading ends
+abbrev pub Tells : Name → (file : Option (List ℕ)) → Option EarlyEnd → Type 0
+Tells name file None = (file ≡ None) ⊎ ((place : ℕ) × EndsAt file place Finished)
+Tells name file (Some end) = (string_bytes end.name ≡ name) × ((cause : EndCause) × (cause ≢ Finished) × EndsAt file end.place cause)

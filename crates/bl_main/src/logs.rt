@@ -1,7 +1,7 @@
 //! Logs whose reading ends before their bytes do.
 ghost use Rattle.std.specs.Prelude.{◌≡◌, ◌≢◌, IfOk, MatchOption};
 ghost use Rattle.bl_site.specs.Disk.{folder_of};
-ghost use Rattle.bl_main.specs.Ends.{EndsAt};
+ghost use Rattle.bl_main.specs.Ends.{EndsAt, Tells};
 
 use bl_log::EndCause;
 use bl_names::{FileName, parse_name};
@@ -103,11 +103,9 @@ fn end_of<S: Site>(
 }
 
 // What is to be said of this log, if anything.
-fn early_end<S: Site>(
-    alloc: Global,
-    site: &mut S,
-    name: &str,
-) -> Result<Option<EarlyEnd>, LookErr> {
+fn early_end<S: Site>(alloc: Global, site: &mut S, name: &str) -> Result<Option<EarlyEnd>, LookErr>
+    ensures { S.shows → IfOk result (λ end. Tells name.now (folder_of (S.disk site.old) name.now) end) }
+{
     let Some((place, cause)) = end_of(alloc, site, name)? else {
         return Ok(None);
     };

@@ -1,2 +1,3 @@
 mod Moved
 mod Sound
+mod Changed

@@ -23,7 +23,7 @@ plain id was (Looked _ _) handles p h = record { careful = h.careful; stand = h.
 plain id was (Listing _) handles p h = record { careful = h.careful; stand = h.stand }
 plain id was (Opened _ _) handles p h = absurd p
 plain id was (Made _ _) handles p h = absurd p
-plain id was (Read _ _ _) handles p h = record { careful = h.careful; stand = h.stand }
+plain id was (Read _ _ _ _) handles p h = record { careful = h.careful; stand = h.stand }
 plain id was (Wrote _ _ _) handles p h = record { careful = h.careful; stand = h.stand }
 plain id was (SyncedFile _ _) handles p h = record { careful = h.careful; stand = h.stand }
 plain id was (SyncedFolder _) handles p h = record { careful = h.careful; stand = h.stand }

@@ -1,5 +1,5 @@
 -- What a folder asks of the system, call by call, and what is so of these calls.
-use Rattle.std.specs.Prelude.{◌≡◌, ◌≢◌, ◌⊎◌, ℕ, Bool, true, List, [], ◌∷◌, Option, None, Some, Result, Ok, Err}
+use Rattle.std.specs.Prelude.{◌≡◌, ◌≢◌, ◌⊎◌, ℕ, Bool, true, false, IsTrue, List, [], ◌∷◌, Option, None, Some, Result, Ok, Err}
 use Rattle.std.specs.String.{string_bytes}
 use Rattle.bl_site.specs.Disk.{Name}
 use Rattle.bl_site_host.specs.declared.system.Found.{Found}
@@ -14,8 +14,8 @@ pub data Event : Type 0 where
   Listing : Option (List (Option Name)) → Event
   Opened : Name → Option ℕ → Event
   Made : Name → Option ℕ → Event
-  -- from which offset, and which bytes
-  Read : ℕ → ℕ → Option (List ℕ) → Event
+  -- from which offset, how many bytes at most, and which bytes
+  Read : ℕ → ℕ → ℕ → Option (List ℕ) → Event
   Wrote : ℕ → List ℕ → Bool → Event
   SyncedFile : ℕ → Bool → Event
   SyncedFolder : Bool → Event
@@ -48,6 +48,17 @@ StandsUnder name id (Made made _ ∷ older) = (made ≢ name) × StandsUnder nam
 StandsUnder name id (Renamed from to _ ∷ older) = (from ≢ name) × (to ≢ name) × StandsUnder name id older
 StandsUnder name id (Removed removed _ ∷ older) = (removed ≢ name) × StandsUnder name id older
 StandsUnder name id (_ ∷ older) = StandsUnder name id older
+
+-- a sync has failed
+abbrev pub SomeSyncFailed : List Event → Type 0
+SomeSyncFailed [] = ⊥
+SomeSyncFailed (SyncedFile _ false ∷ _) = Unit {0}
+SomeSyncFailed (SyncedFolder false ∷ _) = Unit {0}
+SomeSyncFailed (_ ∷ older) = SomeSyncFailed older
+
+-- a folder that is marked as lost once a sync has failed stays so
+abbrev pub StaysMarked : (was : List Event) → (lost : Bool) → (now : List Event) → (loses : Bool) → Type 0
+StaysMarked was lost now loses = (SomeSyncFailed was → IsTrue lost) → SomeSyncFailed now → IsTrue loses
 
 -- the newest call was this one
 abbrev pub IsNewest : Event → List Event → Type 0

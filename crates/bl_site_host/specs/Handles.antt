@@ -22,6 +22,8 @@ pub record IsSound {F : Type 0} (id : F → ℕ) (calls : List Event) (handles :
 abbrev pub StaysSound : {F : Type 0} → (F → ℕ) → (was : List Event) → (kept : List (Handle F)) → (now : List Event) → (keeps : List (Handle F)) → Type 0
 StaysSound id was kept now keeps = IsSound id was kept → IsSound id now keeps
 
--- The file that was pushed out, if there was one, was synced if bytes had been appended to it.
-abbrev pub IsLetGo : {F : Type 0} → (F → ℕ) → Handle F → (old new : List Event) → Type 0
-IsLetGo id handle old new = handle.unsynced ≡ true → new ≡ SyncedFile (id handle.file) true ∷ old
+-- The oldest file was let go, after it was synced if bytes had been appended to it. The others are kept.
+pub record OldestIsLetGo {F : Type 0} (id : F → ℕ) (was : List Event) (kept : List (Handle F)) (now : List Event) (keeps : List (Handle F)) : Type 0 where
+  pub oldest : Handle F
+  pub others : kept ≡ oldest ∷ keeps
+  pub synced : oldest.unsynced ≡ true → now ≡ SyncedFile (id oldest.file) true ∷ was

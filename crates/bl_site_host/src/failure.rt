@@ -1,5 +1,6 @@
 //! The last failure, in words that tell a person what to mend.
-ghost use Rattle.std.specs.Prelude.{◌≡◌};
+ghost use Rattle.std.specs.Prelude.{◌≡◌, ◌⊎◌, []};
+ghost use Rattle.std.specs.String.{string_bytes};
 ghost use Rattle.bl_site_host.specs.Failures.{IsNoted, error_of as error_of_lem, error_in as error_in_lem};
 
 use crate::faults::Fault;
@@ -42,6 +43,7 @@ pub struct Failure {
 impl Failure {
     pub(crate) fn new(alloc: Global, asked: Asked, name: &str, error: io::Error) -> Failure
         ensures asked { result.asked ≡ asked }
+        ensures name { (string_bytes result.name ≡ name.now) ⊎ (string_bytes result.name ≡ []) }
         ensures error { result.error ≡ error }
     {
         let name = match String::from_str(alloc, name) {

@@ -1,9 +1,11 @@
 //! The current folder. What is no regular file, as a link, a pipe or a folder, is never opened, followed, emptied or waited for.
-ghost use Rattle.std.specs.Prelude.{◌≡◌, ◌≤◌, ◌<◌, ◌∷◌, [], List, Option, length, take, map, true, false, IfOk, IfSome, IsTrue, IsErr, OnOk, slice_index_or};
+ghost use Rattle.std.specs.Prelude.{◌≡◌, ◌≢◌, ◌≤◌, ◌<◌, ◌∷◌, [], List, Option, length, take, map, true, false, IfOk, IfErr, IfSome, IsTrue, IsErr, OnOk, slice_index_or};
 ghost use Rattle.std.specs.String.{string_bytes};
 ghost use Rattle.bl_site.specs.Disk.{Name};
-ghost use Rattle.bl_site_host.specs.Events.{Event, Looked, Listing, Read, Wrote, SyncedFile, SyncedFolder, Renamed, Removed, SawNoOther, IsNewest, IsOn, IsMade, IsOnDisk, files_of, found_of};
-ghost use Rattle.bl_site_host.specs.Handles.{StaysSound, IsSound, IsLetGo, IsPlaceOf};
+ghost use Rattle.bl_site_host.specs.Events.{Event, Looked, Listing, Read, Wrote, SyncedFile, SyncedFolder, Renamed, Removed, SawNoOther, IsNewest, IsOn, IsMade, IsOnDisk, StaysMarked, files_of, found_of};
+ghost use Rattle.bl_site_host.specs.Changes.{ChangesNone, Changes, IsMaking, IsWriting, IsRenaming, IsRemoving};
+ghost use Rattle.bl_site_host.specs.declared.faults.Fault.TheVariants.{Memory};
+ghost use Rattle.bl_site_host.specs.Handles.{StaysSound, IsSound, OldestIsLetGo, IsPlaceOf};
 
 use crate::faults::{Fault, changed, synced};
 use crate::handles::Handles;
@@ -35,6 +37,8 @@ impl<S: System + Drop> Folder<S> {
     pub(crate) fn length(&mut self, name: &str) -> Result<Option<u64>, Fault>
         ensures lost { self.new.lost ≡ self.old.lost }
         ensures seen { S.shows → IfOk result (λ length. S.calls self.new.system ≡ Looked name.now (Some (found_of length)) ∷ S.calls self.old.system) }
+        ensures changes { S.shows → ChangesNone (S.calls self.old.system) (S.calls self.new.system) }
+        ensures marked { S.shows → StaysMarked (S.calls self.old.system) self.old.lost (S.calls self.new.system) self.new.lost }
         ensures sound { S.shows → StaysSound S.id (S.calls self.old.system) self.old.handles.open.items (S.calls self.new.system) self.new.handles.open.items }
     {
         match self.system.look(name)? {
@@ -47,6 +51,9 @@ impl<S: System + Drop> Folder<S> {
     // The regular files whose names are UTF-8.
     pub(crate) fn names(&mut self, alloc: Global) -> Result<Vec<String>, Fault>
         ensures all { S.shows → IfOk result (λ names. (entries : List (Option Name)) × (S.calls self.new.system ≡ Listing (Some entries) ∷ S.calls self.old.system) × (map string_bytes names.items ≡ files_of entries)) }
+        ensures changes { S.shows → ChangesNone (S.calls self.old.system) (S.calls self.new.system) }
+        ensures stays_lost { IsTrue self.old.lost → IsTrue self.new.lost }
+        ensures marked { S.shows → StaysMarked (S.calls self.old.system) self.old.lost (S.calls self.new.system) self.new.lost }
         ensures sound { S.shows → StaysSound S.id (S.calls self.old.system) self.old.handles.open.items (S.calls self.new.system) self.new.handles.open.items }
     {
         let entries = self.system.list()?;
@@ -61,8 +68,11 @@ impl<S: System + Drop> Folder<S> {
     ) -> Result<Option<usize>, Fault>
         ensures bound { IfOk result (λ r. IfSome r (λ count. count ≤ length into.new)) }
         ensures bytes { S.shows → IsSound S.id (S.calls self.old.system) self.old.handles.open.items
-            → IfOk result (λ r. IfSome r (λ count. IsOn name.now (λ file. Read file offset (Some (take count into.new))) (S.calls self.new.system))) }
+            → IfOk result (λ r. IfSome r (λ count. IsOn name.now (λ file. Read file offset (length into.old) (Some (take count into.new))) (S.calls self.new.system))) }
         ensures absent { S.shows → result ≡ Ok None → IsNewest (Looked name.now (Some Found.Nothing)) (S.calls self.new.system) }
+        ensures changes { S.shows → ChangesNone (S.calls self.old.system) (S.calls self.new.system) }
+        ensures stays_lost { IsTrue self.old.lost → IsTrue self.new.lost }
+        ensures marked { S.shows → StaysMarked (S.calls self.old.system) self.old.lost (S.calls self.new.system) self.new.lost }
         ensures sound { S.shows → StaysSound S.id (S.calls self.old.system) self.old.handles.open.items (S.calls self.new.system) self.new.handles.open.items }
     {
         let Some(at) = self.opened(name, false)? else {
@@ -75,6 +85,9 @@ impl<S: System + Drop> Folder<S> {
     pub(crate) fn append(&mut self, name: &str, bytes: &[u8]) -> Result<(), Fault>
         ensures bytes { S.shows → IsSound S.id (S.calls self.old.system) self.old.handles.open.items
             → OnOk result (IsOn name.now (λ file. Wrote file bytes.now true) (S.calls self.new.system)) }
+        ensures changes { S.shows → Changes (IsWriting bytes.now) result (S.calls self.old.system) (S.calls self.new.system) }
+        ensures stays_lost { IsTrue self.old.lost → IsTrue self.new.lost }
+        ensures marked { S.shows → StaysMarked (S.calls self.old.system) self.old.lost (S.calls self.new.system) self.new.lost }
         ensures sound { S.shows → StaysSound S.id (S.calls self.old.system) self.old.handles.open.items (S.calls self.new.system) self.new.handles.open.items }
     {
         let Some(at) = self.opened(name, true)? else {
@@ -89,6 +102,9 @@ impl<S: System + Drop> Folder<S> {
         ensures lost { IsTrue self.old.lost → IsErr result }
         ensures file { S.shows → IsSound S.id (S.calls self.old.system) self.old.handles.open.items
             → OnOk result (IsOn name.now (λ file. SyncedFile file true) (S.calls self.new.system)) }
+        ensures changes { S.shows → ChangesNone (S.calls self.old.system) (S.calls self.new.system) }
+        ensures stays_lost { IsTrue self.old.lost → IsTrue self.new.lost }
+        ensures marked { S.shows → StaysMarked (S.calls self.old.system) self.old.lost (S.calls self.new.system) self.new.lost }
         ensures sound { S.shows → StaysSound S.id (S.calls self.old.system) self.old.handles.open.items (S.calls self.new.system) self.new.handles.open.items }
     {
         let Some(at) = self.opened(name, false)? else {
@@ -104,6 +120,9 @@ impl<S: System + Drop> Folder<S> {
     pub(crate) fn create(&mut self, name: &str) -> Result<(), Fault>
         ensures lost { IsTrue self.old.lost → IsErr result }
         ensures made { S.shows → OnOk result (IsMade name.now (S.calls self.new.system)) }
+        ensures changes { S.shows → Changes (IsMaking name.now) result (S.calls self.old.system) (S.calls self.new.system) }
+        ensures stays_lost { IsTrue self.old.lost → IsTrue self.new.lost }
+        ensures marked { S.shows → StaysMarked (S.calls self.old.system) self.old.lost (S.calls self.new.system) self.new.lost }
         ensures sound { S.shows → StaysSound S.id (S.calls self.old.system) self.old.handles.open.items (S.calls self.new.system) self.new.handles.open.items }
     {
         let replaces = self.is_there(name)?;
@@ -117,6 +136,9 @@ impl<S: System + Drop> Folder<S> {
     pub(crate) fn rename(&mut self, from: &str, to: &str) -> Result<(), Fault>
         ensures lost { IsTrue self.old.lost → IsErr result }
         ensures renamed { S.shows → OnOk result (IsOnDisk (Renamed from.now to.now true) (S.calls self.new.system)) }
+        ensures changes { S.shows → Changes (IsRenaming from.now to.now) result (S.calls self.old.system) (S.calls self.new.system) }
+        ensures stays_lost { IsTrue self.old.lost → IsTrue self.new.lost }
+        ensures marked { S.shows → StaysMarked (S.calls self.old.system) self.old.lost (S.calls self.new.system) self.new.lost }
         ensures sound { S.shows → StaysSound S.id (S.calls self.old.system) self.old.handles.open.items (S.calls self.new.system) self.new.handles.open.items }
     {
         if !self.is_there(from)? {
@@ -132,6 +154,9 @@ impl<S: System + Drop> Folder<S> {
     pub(crate) fn remove(&mut self, name: &str) -> Result<(), Fault>
         ensures lost { IsTrue self.old.lost → IsErr result }
         ensures removed { S.shows → OnOk result (IsOnDisk (Removed name.now true) (S.calls self.new.system)) }
+        ensures changes { S.shows → Changes (IsRemoving name.now) result (S.calls self.old.system) (S.calls self.new.system) }
+        ensures stays_lost { IsTrue self.old.lost → IsTrue self.new.lost }
+        ensures marked { S.shows → StaysMarked (S.calls self.old.system) self.old.lost (S.calls self.new.system) self.new.lost }
         ensures sound { S.shows → StaysSound S.id (S.calls self.old.system) self.old.handles.open.items (S.calls self.new.system) self.new.handles.open.items }
     {
         if !self.is_there(name)? {
@@ -147,6 +172,8 @@ impl<S: System + Drop> Folder<S> {
         ensures seen { S.shows → OnOk result (SawNoOther name.now (S.calls self.new.system)) }
         ensures absent { S.shows → result ≡ Ok false → IsNewest (Looked name.now (Some Found.Nothing)) (S.calls self.new.system) }
         ensures lost { self.new.lost ≡ self.old.lost }
+        ensures changes { S.shows → ChangesNone (S.calls self.old.system) (S.calls self.new.system) }
+        ensures marked { S.shows → StaysMarked (S.calls self.old.system) self.old.lost (S.calls self.new.system) self.new.lost }
         ensures sound { S.shows → StaysSound S.id (S.calls self.old.system) self.old.handles.open.items (S.calls self.new.system) self.new.handles.open.items }
     {
         Ok(self.length(name)?.is_some())
@@ -156,6 +183,10 @@ impl<S: System + Drop> Folder<S> {
     fn sync_names(&mut self) -> Result<(), Fault>
         ensures lost { IsTrue self.old.lost → IsErr result }
         ensures done { S.shows → OnOk result (S.calls self.new.system ≡ SyncedFolder true ∷ S.calls self.old.system) }
+        ensures changes { S.shows → ChangesNone (S.calls self.old.system) (S.calls self.new.system) }
+        ensures stays_lost { IsTrue self.old.lost → IsTrue self.new.lost }
+        ensures disk { IfErr result (λ fault. fault ≢ Memory) }
+        ensures marked { S.shows → StaysMarked (S.calls self.old.system) self.old.lost (S.calls self.new.system) self.new.lost }
         ensures sound { S.shows → StaysSound S.id (S.calls self.old.system) self.old.handles.open.items (S.calls self.new.system) self.new.handles.open.items }
     {
         let done = self.system.sync_folder();
@@ -167,6 +198,8 @@ impl<S: System + Drop> Folder<S> {
         ensures place { IfOk result (λ place. IfSome place (IsPlaceOf name.now self.new.handles.open.items)) }
         ensures absent { S.shows → result ≡ Ok None → IsNewest (Looked name.now (Some Found.Nothing)) (S.calls self.new.system) }
         ensures lost { IsTrue self.old.lost → IsTrue self.new.lost }
+        ensures changes { S.shows → ChangesNone (S.calls self.old.system) (S.calls self.new.system) }
+        ensures marked { S.shows → StaysMarked (S.calls self.old.system) self.old.lost (S.calls self.new.system) self.new.lost }
         ensures sound { S.shows → StaysSound S.id (S.calls self.old.system) self.old.handles.open.items (S.calls self.new.system) self.new.handles.open.items }
     {
         if let Some(at) = self.usable(name, appends) {
@@ -196,6 +229,8 @@ impl<S: System + Drop> Folder<S> {
         ensures place { IfOk result (λ place. IfSome place (IsPlaceOf name.now self.new.handles.open.items)) }
         ensures absent { S.shows → result ≡ Ok None → IsNewest (Looked name.now (Some Found.Nothing)) (S.calls self.new.system) }
         ensures lost { self.new.lost ≡ self.old.lost }
+        ensures changes { S.shows → ChangesNone (S.calls self.old.system) (S.calls self.new.system) }
+        ensures marked { S.shows → StaysMarked (S.calls self.old.system) self.old.lost (S.calls self.new.system) self.new.lost }
         ensures sound { S.shows → StaysSound S.id (S.calls self.old.system) self.old.handles.open.items (S.calls self.new.system) self.new.handles.open.items }
     {
         let key = String::from_str(self.alloc, name)?;
@@ -208,6 +243,11 @@ impl<S: System + Drop> Folder<S> {
 
     fn make_room(&mut self) -> Result<(), Fault>
         ensures lost { IsTrue self.old.lost → IsTrue self.new.lost }
+        ensures room { length self.old.handles.open.items < 64 → self.new ≡ self.old }
+        ensures full { S.shows → OnOk result (64 ≤ length self.old.handles.open.items
+            → OldestIsLetGo S.id (S.calls self.old.system) self.old.handles.open.items (S.calls self.new.system) self.new.handles.open.items) }
+        ensures changes { S.shows → ChangesNone (S.calls self.old.system) (S.calls self.new.system) }
+        ensures marked { S.shows → StaysMarked (S.calls self.old.system) self.old.lost (S.calls self.new.system) self.new.lost }
         ensures sound { S.shows → StaysSound S.id (S.calls self.old.system) self.old.handles.open.items (S.calls self.new.system) self.new.handles.open.items }
     {
         if self.handles.is_full() {
@@ -220,7 +260,9 @@ impl<S: System + Drop> Folder<S> {
     fn close_oldest(&mut self) -> Result<(), Fault>
         ensures lost { IsTrue self.old.lost → IsTrue self.new.lost }
         ensures synced { S.shows → OnOk result (0 < length self.old.handles.open.items
-            → (d : _) → IsLetGo S.id (slice_index_or self.old.handles.open.items 0 d) (S.calls self.old.system) (S.calls self.new.system)) }
+            → OldestIsLetGo S.id (S.calls self.old.system) self.old.handles.open.items (S.calls self.new.system) self.new.handles.open.items) }
+        ensures changes { S.shows → ChangesNone (S.calls self.old.system) (S.calls self.new.system) }
+        ensures marked { S.shows → StaysMarked (S.calls self.old.system) self.old.lost (S.calls self.new.system) self.new.lost }
         ensures sound { S.shows → StaysSound S.id (S.calls self.old.system) self.old.handles.open.items (S.calls self.new.system) self.new.handles.open.items }
     {
         match self.handles.take_oldest() {

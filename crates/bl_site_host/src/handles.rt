@@ -1,5 +1,5 @@
 //! Files that stay open between calls.
-ghost use Rattle.std.specs.Prelude.{◌≡◌, ◌≢◌, ◌<◌, ℕ, List, length, drop, All, IfOk, IfSome, IfNone, MatchOption, slice_index_or, false};
+ghost use Rattle.std.specs.Prelude.{◌≡◌, ◌≢◌, ◌≤◌, ◌↔◌, ℕ, List, ◌∷◌, length, All, IfOk, IfSome, IfNone, IsTrue, MatchOption};
 ghost use Rattle.std.specs.String.{string_bytes};
 ghost use Rattle.bl_site_host.specs.Events.{Event, StandsUnder};
 ghost use Rattle.bl_site_host.specs.Handles.{AllStand, IsPlaceOf};
@@ -46,7 +46,9 @@ impl<F: Drop> Handles<F> {
         None
     }
 
-    pub(crate) fn is_full(&self) -> bool {
+    pub(crate) fn is_full(&self) -> bool
+        ensures { IsTrue result ↔ 64 ≤ length self.now.open.items }
+    {
         self.open.len() >= MOST
     }
 
@@ -63,7 +65,7 @@ impl<F: Drop> Handles<F> {
     // Takes the file out that has been open longest.
     pub(crate) fn take_oldest(&mut self) -> Option<Handle<F>>
         ensures none { IfNone result (length self.old.open.items ≡ 0) }
-        ensures oldest { IfSome result (λ handle. (d : _) → slice_index_or self.old.open.items 0 d ≡ handle) }
+        ensures oldest { IfSome result (λ handle. self.old.open.items ≡ handle ∷ self.new.open.items) }
         ensures stand { (id : F → ℕ) (calls : List Event) → AllStand id calls self.old.open.items → AllStand id calls self.new.open.items }
     {
         if self.open.is_empty() {

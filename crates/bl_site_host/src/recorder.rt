@@ -17,7 +17,7 @@ enum Note {
     Listing,
     Opened(String, u64),
     Made(String, u64),
-    Read(u64, u64),
+    Read(u64, u64, usize),
     Wrote(u64, Vec<u8>),
     SyncedFile(u64),
     SyncedFolder,
@@ -69,7 +69,7 @@ impl<R: Abort + AllocGlobal + Drop> System for Recorder<R> {
       | note.Listing ↦ Listing (Some [])
       | note.Opened name id ↦ Opened (string_bytes name) (Some id)
       | note.Made name id ↦ Made (string_bytes name) (Some id)
-      | note.Read id offset ↦ Read id offset (Some [])
+      | note.Read id offset most ↦ Read id offset most (Some [])
       | note.Wrote id bytes ↦ Wrote id bytes.items true
       | note.SyncedFile id ↦ SyncedFile id true
       | note.SyncedFolder ↦ SyncedFolder true
@@ -103,8 +103,8 @@ impl<R: Abort + AllocGlobal + Drop> System for Recorder<R> {
         Ok(Opening { id })
     }
 
-    fn read(&mut self, file: &mut Opening, offset: u64, _into: &mut [u8]) -> io::Result<usize> {
-        self.note(Note::Read(file.id, offset));
+    fn read(&mut self, file: &mut Opening, offset: u64, into: &mut [u8]) -> io::Result<usize> {
+        self.note(Note::Read(file.id, offset, into.len()));
         Ok(0)
     }
 
@@ -153,7 +153,7 @@ fn letter(note: &Note) -> (char, u64) {
         Note::Listing => ('n', 0),
         Note::Opened(_, id) => ('o', *id),
         Note::Made(_, id) => ('m', *id),
-        Note::Read(id, _) => ('r', *id),
+        Note::Read(id, _, _) => ('r', *id),
         Note::Wrote(id, _) => ('w', *id),
         Note::SyncedFile(id) => ('s', *id),
         Note::SyncedFolder => ('f', 0),

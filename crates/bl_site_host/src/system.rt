@@ -42,7 +42,7 @@ pub(crate) trait System {
     /// The calls so far, the newest first.
     ghost calls: { Self → List Event };
 
-    /// The number of an open file. Each opening has its own.
+    /// The number by which the calls name an open file.
     ghost id: { Self.File → ℕ };
 
     /// The entries of a folder that are left.
@@ -63,7 +63,7 @@ pub(crate) trait System {
     /// Reads what there is from the offset on, as far as it fits.
     fn read(&mut self, file: &mut Self::File, offset: u64, into: &mut [u8]) -> io::Result<usize>
         ensures bound { IfOk result (λ count. count ≤ length into.new) }
-        ensures calls { shows → calls self.new ≡ Read (id file.old) offset (option_map (λ count. take count into.new) (answer_of result)) ∷ calls self.old }
+        ensures calls { shows → calls self.new ≡ Read (id file.old) offset (length into.old) (option_map (λ count. take count into.new) (answer_of result)) ∷ calls self.old }
         ensures same { shows → id file.new ≡ id file.old };
 
     /// Appends all of the bytes, or fails and has appended some first ones of them.

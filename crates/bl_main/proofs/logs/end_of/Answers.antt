@@ -21,6 +21,6 @@ records-preserved g c = λ shown.
     let same = same_file _ _ _ _ start.disk start.name in
     record {
       name = c.in_ok-place.ensures.name ∙ start.name;
-      disk = (c.in_ok-place.ensures.stays shown).same ∙ start.disk;
+      disk = (c.in_ok-place.ensures.quiet.stays shown).same ∙ start.disk;
       found = finds_more _ _ _ _ _ _ same c.in-Record.is (c.in_ok-place.ensures.answers shown start.found.0 (found_there _ _ _ _ same start.found.1));
     }
