@@ -121,16 +121,30 @@ fn early_end<S: Site>(alloc: Global, site: &mut S, name: &str) -> Result<Option<
     }))
 }
 
-/// The logs of the folder whose reading ends before their bytes do, by number.
+/// The names of logs, by number.
+pub type Logs = BTreeMap<u64, String>;
+
+/// The logs of the folder.
 ///
 /// Errors: `Disk`, `OutOfMemory`.
-pub fn early_ends<S: Site>(alloc: Global, site: &mut S) -> Result<Vec<EarlyEnd>, LookErr> {
+pub fn list_logs<S: Site>(alloc: Global, site: &mut S) -> Result<Logs, LookErr> {
     let mut logs = BTreeMap::new(alloc);
     for name in site.list(alloc)? {
         if let Some(FileName::Log(number)) = parse_name(name.as_str()) {
             logs.insert(number, name)?;
         }
     }
+    Ok(logs)
+}
+
+/// Those of these logs whose reading ends before their bytes do.
+///
+/// Errors: `Disk`, `OutOfMemory`.
+pub fn early_ends<S: Site>(
+    alloc: Global,
+    site: &mut S,
+    logs: &Logs,
+) -> Result<Vec<EarlyEnd>, LookErr> {
     let mut found = Vec::new(alloc);
     for (_, name) in logs.iter() {
         if let Some(end) = early_end(alloc, site, name.as_str())? {

@@ -9,7 +9,7 @@ mod logs;
 use advice::advice;
 use bl_shell::{Status, run};
 use bl_site_host::{FolderLock, HostSite, HostSource, Streams};
-use logs::early_ends;
+use logs::{Logs, LookErr, early_ends, list_logs};
 use std::env;
 use std::io::{self, IsTerminal};
 use std::process::ExitCode;
@@ -66,6 +66,7 @@ fn serve(rt: &HostRuntime, words: &[String]) -> io::Result<Status> {
     }
     let mut script = HostSource::start(rt.stdin());
     let mut site = HostSite::start(rt.clone()?);
+    let earlier = list_logs(rt.alloc(), &mut site);
     let status = run(rt.alloc(), words, &mut script, &mut site);
     if let Some(failure) = site.last_failure() {
         let _ = eprintln!(rt; "blob_shell: {failure}");
@@ -74,10 +75,24 @@ fn serve(rt: &HostRuntime, words: &[String]) -> io::Result<Status> {
         let _ = eprintln!(rt; "blob_shell: read standard input: {error}");
     }
     let status = told(rt, status);
-    if let Ok(ends) = early_ends(rt.alloc(), &mut site) {
-        for end in ends.iter() {
-            let _ = eprintln!(rt; "blob_shell: {end}");
-        }
-    }
+    // A log that this run made is as it was written, where the run ended well: it is not read again.
+    let logs = match status {
+        Status::Done => earlier,
+        _ => list_logs(rt.alloc(), &mut site),
+    };
+    let _ = tell_early_ends(rt, &mut site, logs);
     Ok(status)
+}
+
+// Names each log whose reading ends before its bytes do.
+fn tell_early_ends(
+    rt: &HostRuntime,
+    site: &mut HostSite<HostRuntime>,
+    logs: Result<Logs, LookErr>,
+) -> Result<(), LookErr> {
+    let logs = logs?;
+    for end in early_ends(rt.alloc(), site, &logs)?.iter() {
+        let _ = eprintln!(rt; "blob_shell: {end}");
+    }
+    Ok(())
 }
