@@ -44,42 +44,31 @@ impl fmt::Display for EarlyEnd {
     }
 }
 
-/// Why the logs could not be looked through.
+/// The logs could not be looked through: the folder failed, or memory ran out.
 #[derive(Debug, Drop)]
-pub enum LookErr {
-    /// The folder failed.
-    Disk,
-    /// Memory ran out.
-    OutOfMemory,
-}
+pub struct LookErr;
 
 impl From<AllocError> for LookErr {
     fn from(_: AllocError) -> LookErr {
-        LookErr::OutOfMemory
+        LookErr
     }
 }
 
 impl<T: Drop> From<AllocFailed<T>> for LookErr {
     fn from(_: AllocFailed<T>) -> LookErr {
-        LookErr::OutOfMemory
+        LookErr
     }
 }
 
 impl From<SiteErr> for LookErr {
-    fn from(error: SiteErr) -> LookErr {
-        match error {
-            SiteErr::OutOfMemory => LookErr::OutOfMemory,
-            SiteErr::DiskFailed | SiteErr::TellFailed => LookErr::Disk,
-        }
+    fn from(_: SiteErr) -> LookErr {
+        LookErr
     }
 }
 
 impl From<RecordErr> for LookErr {
-    fn from(error: RecordErr) -> LookErr {
-        match error {
-            RecordErr::OutOfMemory => LookErr::OutOfMemory,
-            RecordErr::Disk => LookErr::Disk,
-        }
+    fn from(_: RecordErr) -> LookErr {
+        LookErr
     }
 }
 
@@ -99,7 +88,7 @@ fn end_of<S: Site>(
             NextRecord::Absent => return Ok(None),
         }
     }
-    Err(LookErr::OutOfMemory)
+    Err(LookErr)
 }
 
 // What is to be said of this log, if anything.
@@ -126,7 +115,7 @@ pub type Logs = BTreeMap<u64, String>;
 
 /// The logs of the folder.
 ///
-/// Errors: `Disk`, `OutOfMemory`.
+/// Errors: `LookErr`.
 pub fn list_logs<S: Site>(alloc: Global, site: &mut S) -> Result<Logs, LookErr> {
     let mut logs = BTreeMap::new(alloc);
     for name in site.list(alloc)? {
@@ -139,7 +128,7 @@ pub fn list_logs<S: Site>(alloc: Global, site: &mut S) -> Result<Logs, LookErr> 
 
 /// Those of these logs whose reading ends before their bytes do.
 ///
-/// Errors: `Disk`, `OutOfMemory`.
+/// Errors: `LookErr`.
 pub fn early_ends<S: Site>(
     alloc: Global,
     site: &mut S,
