@@ -40,7 +40,7 @@ pub fn advice(status: Status) -> Option<&'static str>
             "no sequence or no file number is left; the reply says which. Copy what `scan` tells into a new folder",
         ),
         Status::Long => Some(
-            "the script has more than 2^40 bytes. The lines before that are done: give the others in another run",
+            "the script has more than 2^40 bytes. The lines that were answered are done: give the others in another run",
         ),
     }
 }
