@@ -24,7 +24,8 @@ manifest_of edits = written 0 (map edit_bytes edits)
 abbrev pub AreReadBack : Edits → Type 0
 AreReadBack edits = edits_of (map edit_bytes edits) ≡ Some edits
 
--- What is written of the manifest are these edits, of which the first so many are synced. While no call of it has failed, all of them are, it reads as it is written, and the next record goes to its end.
+-- What is written of the manifest are these edits, of which the first so many are synced. While no call of it has failed, all of them
+-- are, it reads as it is written, and the next record goes to its end.
 pub record HoldsEdits (disk : Disk) (manifest : ManifestFile) (edits : Edits) (synced : ℕ) : Type 0 where
   pub records : HoldsRecords disk (file_of manifest) (map edit_bytes edits) synced
   pub are : AreReadBack edits

@@ -14,7 +14,8 @@ pub record FileReading : Type 0 where
 abbrev pub reading_at : Name → ℕ → Reading → FileReading
 reading_at name offset reading = record { name = name; offset = offset; reading = reading }
 
--- The reader was fed the bytes of the file before the offset, none where there is no file, and has found these records, each with the place behind it. Once it is closed those were all bytes of the file.
+-- The reader was fed the bytes of the file before the offset, none where there is no file, and has found these records, each with the
+-- place behind it. Once it is closed those were all bytes of the file.
 pub record HasFound (file : Option (List ℕ)) (found : List (List ℕ × ℕ)) (reader : FileReading) : Type 0 where
   pub reads : HasRead (take reader.offset (unwrap_or file [])) found reader.reading
   pub whole : reader.reading.closed ≡ true → (bytes : List ℕ) × (file ≡ Some bytes) × (length bytes ≤ reader.offset)

@@ -39,7 +39,8 @@ pub record AppendsPartly (name : Name) (bytes : List ℕ) (old new : Disk) : Typ
 abbrev pub Follows : Name → (was now : Disk) → (old : Disk → Type 0) → Disk → Type 0
 Follows name was now old disk = (before : Disk) × old before × ((other : Name) → (disk other ≡ before other) ⊎ ((before other ≡ was name) × (disk other ≡ now name)))
 
--- Bytes are appended to a file and it is synced, while name calls may be in doubt. Each disk that there may be then follows one that there may be between the two calls, and that follows an old one; a cut finds one of all these.
+-- Bytes are appended to a file and it is synced, while name calls may be in doubt. Each disk that there may be then follows one that
+-- there may be between the two calls, and that follows an old one; a cut finds one of all these.
 pub record AppendsInDoubt {D : Type 0} (disk : D → Disk) (may_be : D → Disk → Type 0) (told : D → List ℕ) (clock : D → ℕ) (left_since : D → ℕ → Cut → Type 0) (name : Name) (bytes : List ℕ) (old new : D) : Type 0 where
   pub mid : Disk
   pub appends : (mid ≡ disk old) ⊎ AppendsAny name bytes (disk old) mid

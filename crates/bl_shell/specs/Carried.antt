@@ -70,7 +70,8 @@ pub record CutTelling (disk : Disk) (reply told : List ℕ) (c : Cut) : Type 0 w
   pub tells : TellsFront reply told c.told
   pub is_cut : IsCut disk c.told c
 
--- A cut while an order is obeyed: a front of its reply was told, and older logs are left whole. The folder stands for the first of the batches before it and of what it writes; once the whole reply of one that syncs was told, for all those before it.
+-- A cut while an order is obeyed: a front of its reply was told, and older logs are left whole. The folder stands for the first of the
+-- batches before it and of what it writes; once the whole reply of one that syncs was told, for all those before it.
 pub record CutIn (order : Parsed) (old : Stored) (batches : List Batch) (least : ℕ) (told : List ℕ) (c : Cut) : Type 0 where
   pub tells : TellsFront (reply_of order old.now) told c.told
   pub whole : AreLeftWhole c

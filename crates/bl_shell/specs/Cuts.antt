@@ -26,14 +26,17 @@ pub record IsErrorFront (bytes : List ℕ) : Type 0 where
 abbrev pub told_only : List ℕ → Cut → Cut
 told_only told c = record c { told = told }
 
--- A cut before the barrier of the run's opening: it leaves what a cut before the run might have left, perhaps with the next log besides, which is empty; and nothing was told but a front of an error line.
+-- A cut before the barrier of the run's opening: it leaves what a cut before the run might have left, perhaps with the next log
+-- besides, which is empty; and nothing was told but a front of an error line.
 pub record CutBefore (may_be : Disk → Type 0) (folder : Folder) (told : List ℕ) (c : Cut) : Type 0 where
   pub error : List ℕ
   pub is_error : IsErrorFront error
   pub told_is : c.told ≡ told ++ error
   pub before : BeforeBarrier folder may_be told (told_only told c)
 
--- A cut behind it, of a run that was given these orders: older logs are left whole and, unless a torn fragment's checksum matches by chance, the folder stands for the map after a prefix of the writes that holds each one acknowledged as synced. Replies alone are counted, not the front of an error line behind them.
+-- A cut behind it, of a run that was given these orders: older logs are left whole and, unless a torn fragment's checksum matches by
+-- chance, the folder stands for the map after a prefix of the writes that holds each one acknowledged as synced. Replies alone are
+-- counted, not the front of an error line behind them.
 pub record CutStands (folder : Folder) (given : List Parsed) (told : List ℕ) (c : Cut) : Type 0 where
   pub began : Start
   pub begins : IsStartOf folder began

@@ -53,7 +53,8 @@ pub record StandsAfter (folder : Folder) (began : Start) (history : List Line) (
   pub fits : began.last + operations_in (take writes (written_by history)) < 2 ^ 56
   pub stands : LogStands folder (after_writes (take writes (written_by history)) began.now)
 
--- A cut of a run that obeys these orders: a front of the replies was told, older logs are left whole and, unless a torn fragment's checksum matches by chance, the folder stands for the map after a prefix of the writes.
+-- A cut of a run that obeys these orders: a front of the replies was told, older logs are left whole and, unless a torn fragment's
+-- checksum matches by chance, the folder stands for the map after a prefix of the writes.
 pub record CutOf (began : Start) (given : List Parsed) (told : List ℕ) (c : Cut) : Type 0 where
   pub history : List Line
   pub last : State

@@ -18,7 +18,8 @@ pub record IsStartOf (folder : Folder) (began : Start) : Type 0 where
   pub map_is : IsMapAt (revisions_of began.batches) began.last began.now
   pub next : IsNext folder began.number
 
--- The folder left has logs of the batches found and, behind them, one batch for each write of these lines, and they make this map. The log in use is the last of those made, one for each opening; all files but the logs made are as they were.
+-- The folder left has logs of the batches found and, behind them, one batch for each write of these lines, and they make this map. The
+-- log in use is the last of those made, one for each opening; all files but the logs made are as they were.
 pub record LeavesLogs (folder folder_after : Folder) (began : Start) (history : List Line) (now : Map) : Type 0 where
   pub stands : Stands folder_after (began.batches ++ numbered (began.last + 1) (written_by history)) (began.last + operations_in (written_by history))
   pub map_is : IsMapAt (revisions_of (began.batches ++ numbered (began.last + 1) (written_by history))) (began.last + operations_in (written_by history)) now

@@ -1,4 +1,5 @@
--- What many calls share that are given a site: what they leave alone, and what their errors say of it. Each record takes the members of the site, as in `OnlyReads S.Site`.
+-- What many calls share that are given a site: what they leave alone, and what their errors say of it.
+-- Each record takes the members of the site, as in `OnlyReads S.Site`.
 use Rattle.std.specs.Prelude.{◌≡◌, ◌≤◌, Result, IsErrOf}
 use Rattle.bl_site.specs.Disk.{MayLeave}
 use Rattle.bl_site.specs.Calls.{KeepsDisk, Elapses}
@@ -6,6 +7,7 @@ use Rattle.bl_site.specs.Causes.{Rose}
 use Rattle.bl_site.specs.declared.site.Site.{Ghosts}
 
 -- The folder was only read, and nothing was told: a cut meanwhile finds what one before might have found.
+-- The counts of the output's failures and of the calls that change something stay; that of the disk's failures does not fall.
 pub record OnlyReads {S : Type 0} (g : Ghosts S) (old new : S) : Type 0 where
   pub stays : g.shows → KeepsDisk g.disk g.may_be g.certain old new
   pub told : g.shows → g.told new ≡ g.told old
@@ -14,13 +16,14 @@ pub record OnlyReads {S : Type 0} (g : Ghosts S) (old new : S) : Type 0 where
   pub tell_faults : g.tell_faults new ≡ g.tell_faults old
   pub changes : g.changes new ≡ g.changes old
 
--- Nothing was told, and the output did not fail.
+-- Nothing was told. The count of the output's failures stays, and that of the disk's does not fall.
 pub record TellsNothing {S : Type 0} (g : Ghosts S) (old new : S) : Type 0 where
   pub told : g.shows → g.told new ≡ g.told old
   pub later : g.disk_faults old ≤ g.disk_faults new
   pub tell_faults : g.tell_faults new ≡ g.tell_faults old
 
--- Why a call fails whose errors are of another type than the site's: `disk` comes only where the disk failed in this call, and at `memory`, want of memory, no failure was counted.
+-- Why a call fails whose errors are of another type than the site's: `disk` comes only where the count of the disk's failures rose,
+-- and at `memory`, want of memory, that count stays.
 pub record HasCauses {S T E : Type 0} (g : Ghosts S) (disk memory : E) (result : Result T E) (old new : S) : Type 0 where
   pub failed : IsErrOf result disk → Rose (g.disk_faults old) (g.disk_faults new)
   pub no_fault : IsErrOf result memory → g.disk_faults new ≡ g.disk_faults old

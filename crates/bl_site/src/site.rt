@@ -165,8 +165,8 @@ pub trait Site {
         ensures tell_faults { tell_faults self.new ≡ tell_faults self.old }
         ensures changes { changes self.new ≡ one_more (changes self.old) };
 
-    /// Puts all bytes of the file of this name, which must be there, on the disk: every cut from now on keeps them. The
-    /// folder reads as before.
+    /// Puts all bytes of the file of this name, which must be there, on the disk: where no name call is in doubt, every cut
+    /// from now on keeps them. The folder reads as before.
     ///
     /// Errors: `DiskFailed`, after which the bytes since the last sync read as any others, at most as many as were handed
     /// over since, and a cut may leave what it might have left before; `OutOfMemory`.

@@ -71,7 +71,7 @@ pub record Carries (store : Stored) (older own : List Batch) (synced : ℕ) (dis
   pub on : StandsOn store.log older own synced store.last disk
   pub now_is : store.now ≡ after_batches (older ++ own) empty
 
--- after a write that failed: the disk holds the batches, or also the next one, of which only some first bytes may read
+-- after a write that failed: the disk holds the batches, or also the next one behind them
 abbrev pub MayHold : Stored → Stored → List Operation → List Batch → List Batch → ℕ → Disk → Type 0
 MayHold old new operations older own synced disk =
     StandsOn new.log older own synced old.last disk
