@@ -1,5 +1,4 @@
 -- What a failed call on records is here.
-use Rattle.std.specs.Prelude.{◌≡◌, ◌⊎◌}
 use Rattle.bl_records.specs.declared.error.RecordErr.{RecordErr}
 use Rattle.bl_records.specs.declared.error.RecordErr.TheVariants as record_err
 use Rattle.bl_manifest.specs.declared.error.ManifestErr.{ManifestErr}
@@ -8,7 +7,3 @@ use Rattle.bl_manifest.specs.declared.error.ManifestErr.TheVariants.{Disk, OutOf
 abbrev pub error_of : RecordErr → ManifestErr
 error_of record_err.Disk = Disk
 error_of record_err.OutOfMemory = OutOfMemory
-
--- a call that writes fails by the disk or for want of memory
-abbrev pub IsCause : ManifestErr → Type 0
-IsCause e = (e ≡ Disk) ⊎ (e ≡ OutOfMemory)

@@ -7,10 +7,9 @@ ghost use Rattle.bl_site.specs.Causes.{Rose};
 ghost use Rattle.bl_site.specs.Quiet.{TellsNothing};
 ghost use Rattle.bl_names.specs.Names.{IsNumber, manifest_name};
 ghost use Rattle.bl_edit.specs.Bounds.{IsEdit};
-ghost use Rattle.bl_records.specs.Causes.{AsksUpTo, more};
-ghost use Rattle.bl_manifest.specs.Causes.{IsCause};
+ghost use Rattle.bl_records.specs.Causes.{IsCause, AsksUpTo, more, FailsOnceAsked};
 ghost use Rattle.bl_manifest.specs.ManifestFile.{new_manifest, record_bytes, behind};
-ghost use Rattle.bl_records.specs.Writing.{MakesSynced, MakesPartly, AppendsSynced, AppendsPartly, AppendsInDoubt, Tears};
+ghost use Rattle.bl_records.specs.Writing.{MakesSynced, MakesPartly, AppendsSynced, AppendsAndSyncs, Tears};
 ghost use Rattle.bl_manifest.specs.Held.{Edits, AreReadBack, HoldsEdits, HoldsOneMore, ReadsEdits};
 
 use crate::error::ManifestErr;
@@ -68,7 +67,7 @@ impl Manifest {
             (MayLeave (MayDuring (MakesPartly (manifest_name number) (record_bytes 0 first.now)) (S.may_be site.old)) (S.told site.old)) }
 
         ensures tells_nothing { TellsNothing S.Site site.old site.new }
-        ensures errors { IfErr result IsCause }
+        ensures errors { IfErr result (IsCause ManifestErr.Disk ManifestErr.OutOfMemory) }
         ensures disk { IsErrOf result ManifestErr.Disk → Rose (S.disk_faults site.old) (S.disk_faults site.new) }
         ensures changes { OnOk result (S.changes site.new ≡ more 3 (S.changes site.old)) }
         ensures asked { IsErrOf result ManifestErr.Disk → AsksUpTo 3 (S.changes site.old) (S.changes site.new) }
@@ -81,8 +80,8 @@ impl Manifest {
         Ok(Manifest { number, records })
     }
 
-    /// Appends an edit, which is in the bounds of the format, as one record, and then syncs the file: at Ok, where no name call is in doubt, every cut reads the
-    /// edit. The manifest is in the folder, and no call of it has failed.
+    /// Appends an edit, which is in the bounds of the format, as one record, and then syncs the file: at Ok, where no name call is in
+    /// doubt, every cut reads the edit. The manifest is in the folder, and no call of it has failed.
     ///
     /// Errors: `Disk`, after which the edit may be there or not, and what reads behind the synced bytes are any bytes, at most as
     /// many as were handed over; `OutOfMemory`, after which the edit was appended or not. After `OutOfMemory` before the folder was
@@ -115,20 +114,13 @@ impl Manifest {
             → (c : Cut) → MayLeave (S.may_be site.new) (S.told site.new) c → ReadsEdits c.folder self.old.number (edits ++ edit.now ∷ [])) }
 
         // It has failed exactly after `Disk`, and after `OutOfMemory` once the folder was asked; else nothing has changed.
-        ensures disk_fails { IsErrOf result ManifestErr.Disk → self.new.failed ≡ true }
-        ensures asked_fails { self.new.failed ≡ true → AsksUpTo 2 (S.changes site.old) (S.changes site.new) }
-        ensures stays { OnErr result (self.new.failed ≡ false → (self.new ≡ self.old) × (site.new ≡ site.old)) }
-        ensures asked { OnOk result (S.changes site.new ≡ more 2 (S.changes site.old)) }
+        ensures fails { FailsOnceAsked S.Site 2 ManifestErr.Disk result self.new.failed self.old self.new site.old site.new }
         ensures number { self.new.number ≡ self.old.number }
 
         // What a cut during it, or after it, may leave: where no name call is in doubt, and in every case.
-        ensures certain { S.shows → S.certain site.old → S.certain site.new }
-        ensures time { S.shows → S.certain site.old → Elapses (S.clock site.old) (S.clock site.new) (S.left_since site.old) (S.left_since site.new)
-            (MayLeave (DoneOrNot (AppendsPartly (manifest_name self.old.number) (record_bytes self.old.place edit.now)) (S.disk site.old)) (S.told site.old)) }
-        ensures doubt { S.shows → AppendsInDoubt S.disk S.may_be S.told S.clock S.left_since (manifest_name self.old.number) (record_bytes self.old.place edit.now) site.old site.new }
-
+        ensures touches { AppendsAndSyncs S.Site (manifest_name self.old.number) (record_bytes self.old.place edit.now) site.old site.new }
         ensures tells_nothing { TellsNothing S.Site site.old site.new }
-        ensures errors { IfErr result IsCause }
+        ensures errors { IfErr result (IsCause ManifestErr.Disk ManifestErr.OutOfMemory) }
         ensures disk { IsErrOf result ManifestErr.Disk → Rose (S.disk_faults site.old) (S.disk_faults site.new) }
     {
         synced_manifests_are_left();

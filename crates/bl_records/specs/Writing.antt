@@ -1,7 +1,8 @@
 -- What the disk is once bytes were written to a file and synced, and on the way there.
 use Rattle.std.specs.Prelude.{◌≡◌, ◌⊎◌, ℕ, ◌≤◌, List, [], ◌++◌, length, Some}
 use Rattle.bl_site.specs.Disk.{Name, File, Disk, Cut, MayLeave}
-use Rattle.bl_site.specs.Calls.{Puts, AppendsAny, Syncs, Frays, Elapses}
+use Rattle.bl_site.specs.Calls.{Puts, AppendsAny, Syncs, Frays, DoneOrNot, Elapses}
+use Rattle.bl_site.specs.declared.site.Site.{Ghosts}
 
 -- a new file of these bytes, all of them on the disk
 abbrev pub MakesSynced : Name → List ℕ → Disk → Disk → Type 0
@@ -47,3 +48,9 @@ pub record AppendsInDoubt {D : Type 0} (disk : D → Disk) (may_be : D → Disk 
   pub syncs : (disk new ≡ mid) ⊎ (Syncs name mid (disk new) ⊎ Frays name mid (disk new))
   pub follows : (d : Disk) → may_be new d → Follows name mid (disk new) (Follows name (disk old) mid (may_be old)) d
   pub time : Elapses (clock old) (clock new) (left_since old) (left_since new) (MayLeave (λ d. Follows name (disk old) mid (may_be old) d ⊎ may_be new d) (told old))
+
+-- What a cut may leave during an append to a file and its sync, or behind them: where no name call is in doubt, and in every case.
+pub record AppendsAndSyncs {S : Type 0} (g : Ghosts S) (name : Name) (bytes : List ℕ) (old new : S) : Type 0 where
+  pub certain : g.shows → g.certain old → g.certain new
+  pub time : g.shows → g.certain old → Elapses (g.clock old) (g.clock new) (g.left_since old) (g.left_since new) (MayLeave (DoneOrNot (AppendsPartly name bytes) (g.disk old)) (g.told old))
+  pub doubt : g.shows → AppendsInDoubt g.disk g.may_be g.told g.clock g.left_since name bytes old new

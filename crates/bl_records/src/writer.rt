@@ -2,14 +2,14 @@
 
 ghost use Rattle.std.specs.Prelude.{◌≡◌, ◌≤◌, ℕ, List, [], true, false, IsSome, IfOk, OnOk, OnErr, IsErrOf, string_bytes, vec_capacity};
 ghost use Rattle.bl_site.specs.Disk.{MayLeave};
-ghost use Rattle.bl_site.specs.Calls.{Creates, Appends, AppendsAny, Syncs, Frays, DoneOrNot, MayDuring, InDoubt, FollowsFile, KeepsDisk, StandsStill, Elapses};
+ghost use Rattle.bl_site.specs.Calls.{Creates, Appends, AppendsAny, Syncs, Frays, DoneOrNot, MayDuring, InDoubt, KeepsDisk, StandsStill, Elapses};
 ghost use Rattle.bl_site.specs.Causes.{Rose, one_more};
-ghost use Rattle.bl_site.specs.Quiet.{TellsNothing, HasCauses};
+ghost use Rattle.bl_site.specs.Quiet.{TellsNothing, HasCauses, TouchesFile};
 ghost use Rattle.bl_log.specs.Layout.{layout};
 ghost use Rattle.bl_records.specs.WrittenFile.{new_file, behind};
-ghost use Rattle.bl_records.specs.Causes.{AsksUpTo, more};
+ghost use Rattle.bl_records.specs.Causes.{FailsOnceAsked};
 ghost use Rattle.bl_records.specs.Held.{HoldsRecords, HoldsOneMore, HoldsOneMoreSynced, HoldsAllSynced};
-ghost use Rattle.bl_records.specs.Writing.{AppendsSynced, AppendsPartly, AppendsInDoubt, Tears};
+ghost use Rattle.bl_records.specs.Writing.{AppendsSynced, AppendsAndSyncs, Tears};
 
 use crate::error::RecordErr;
 use bl_log::LogWriter;
@@ -91,20 +91,19 @@ impl RecordWriter {
     /// Appends a record. The file is in the folder, and no call of it has failed.
     ///
     /// Errors: `Disk`, after which some bytes may follow in the file, at most as many as the record has; `OutOfMemory`, after which
-    /// none do. After `OutOfMemory` before the folder was asked the writer is as it was.
+    /// none do. After `OutOfMemory` before the folder was asked nothing has changed.
     pub fn append<S: Site>(&mut self, site: &mut S, payload: &[u8]) -> Result<(), RecordErr>
         requires usable { self.old.failed ≡ false }
         requires there { S.shows → IsSome (S.disk site.old self.old.name) }
         ensures appended { S.shows → OnOk result (Appends self.old.name (layout self.old.place payload.now) (layout self.old.place payload.now) (S.disk site.old) (S.disk site.new)) }
         ensures moved { OnOk result (self.new ≡ behind self.old (layout self.old.place payload.now)) }
         ensures torn { S.shows → IsErrOf result RecordErr.Disk → AppendsAny self.old.name (layout self.old.place payload.now) (S.disk site.old) (S.disk site.new) }
-        ensures keeps { S.shows → IsErrOf result RecordErr.OutOfMemory → KeepsDisk S.disk S.may_be S.certain site.old site.new }
 
         // It holds one record more, also where the folder failed: then any bytes may read in its place, at most as many.
         ensures holds { S.shows → (payloads : List (List ℕ)) (synced : ℕ) → HoldsRecords (S.disk site.old) self.old payloads synced
             → HoldsOneMore result (S.disk site.new) self.new payloads payload.now synced }
 
-        // It has failed exactly after `Disk`, and after `OutOfMemory` once the folder was asked; else it is as it was.
+        // It has failed exactly after `Disk`, and after `OutOfMemory` once the folder was asked; else nothing has changed.
         ensures disk_fails { IsErrOf result RecordErr.Disk → self.new.failed ≡ true }
         ensures asked_fails { self.new.failed ≡ true → S.changes site.new ≡ one_more (S.changes site.old) }
         ensures stays { OnErr result (self.new.failed ≡ false → (self.new ≡ self.old) × (site.new ≡ site.old)) }
@@ -112,12 +111,7 @@ impl RecordWriter {
         ensures name { self.new.name ≡ self.old.name }
 
         // What a cut during it, or after it, may leave.
-        ensures certain { S.shows → S.certain site.old → S.certain site.new }
-        ensures doubt { S.shows → FollowsFile self.old.name (S.disk site.old) (S.disk site.new) (S.may_be site.old) (S.may_be site.new) }
-        ensures time { S.shows → Elapses (S.clock site.old) (S.clock site.new) (S.left_since site.old) (S.left_since site.new)
-            (MayLeave (S.may_be site.new) (S.told site.new)) }
-        ensures still { S.shows → IsErrOf result RecordErr.OutOfMemory → StandsStill S.clock S.left_since site.old site.new }
-
+        ensures touches { TouchesFile S.Site self.old.name RecordErr.OutOfMemory result site.old site.new }
         ensures tells_nothing { TellsNothing S.Site site.old site.new }
         ensures causes { HasCauses S.Site RecordErr.Disk RecordErr.OutOfMemory result site.old site.new }
     {
@@ -133,8 +127,8 @@ impl RecordWriter {
         Ok(())
     }
 
-    /// Syncs the file: where no name call is in doubt, every cut from now on keeps all that was appended. The file is in the folder, and no call of it has failed. It
-    /// takes no memory of its own.
+    /// Syncs the file: where no name call is in doubt, every cut from now on keeps all that was appended. The file is in the folder, and
+    /// no call of it has failed. It takes no memory of its own.
     ///
     /// Errors: `Disk`, after which the bytes since the last sync may read as any others, at most as many, and a cut may leave what
     /// it might have left before; `OutOfMemory`, after which the folder is as it was. After both the writer has failed.
@@ -143,7 +137,6 @@ impl RecordWriter {
         requires there { S.shows → IsSome (S.disk site.old self.old.name) }
         ensures synced { S.shows → OnOk result (Syncs self.old.name (S.disk site.old) (S.disk site.new)) }
         ensures frayed { S.shows → IsErrOf result RecordErr.Disk → Frays self.old.name (S.disk site.old) (S.disk site.new) }
-        ensures keeps { S.shows → IsErrOf result RecordErr.OutOfMemory → KeepsDisk S.disk S.may_be S.certain site.old site.new }
         ensures stays { OnOk result (self.new ≡ self.old) }
         ensures fails { OnErr result (self.new ≡ record self.old { failed = true }) }
 
@@ -152,12 +145,7 @@ impl RecordWriter {
             → HoldsAllSynced result (S.disk site.new) self.new payloads synced }
 
         // What a cut during it, or after it, may leave.
-        ensures certain { S.shows → S.certain site.old → S.certain site.new }
-        ensures doubt { S.shows → FollowsFile self.old.name (S.disk site.old) (S.disk site.new) (S.may_be site.old) (S.may_be site.new) }
-        ensures time { S.shows → Elapses (S.clock site.old) (S.clock site.new) (S.left_since site.old) (S.left_since site.new)
-            (MayLeave (S.may_be site.new) (S.told site.new)) }
-        ensures still { S.shows → IsErrOf result RecordErr.OutOfMemory → StandsStill S.clock S.left_since site.old site.new }
-
+        ensures touches { TouchesFile S.Site self.old.name RecordErr.OutOfMemory result site.old site.new }
         ensures tells_nothing { TellsNothing S.Site site.old site.new }
         ensures causes { HasCauses S.Site RecordErr.Disk RecordErr.OutOfMemory result site.old site.new }
         ensures changes { S.changes site.new ≡ one_more (S.changes site.old) }
@@ -168,8 +156,8 @@ impl RecordWriter {
         Ok(())
     }
 
-    /// Appends a record and then syncs the file: at Ok every cut keeps the record. The file is in the folder, and no call of it has
-    /// failed.
+    /// Appends a record and then syncs the file: at Ok, where no name call is in doubt, every cut from now on keeps the record. The file
+    /// is in the folder, and no call of it has failed.
     ///
     /// Errors: `Disk`, after which the record may be there or not, and what reads behind the synced bytes are any bytes, at most as
     /// many as were handed over; `OutOfMemory`, after which the record was appended or not. After `OutOfMemory` before the folder was
@@ -188,18 +176,11 @@ impl RecordWriter {
             → HoldsOneMoreSynced result (S.disk site.new) self.new payloads payload.now synced }
 
         // It has failed exactly after `Disk`, and after `OutOfMemory` once the folder was asked; else nothing has changed.
-        ensures disk_fails { IsErrOf result RecordErr.Disk → self.new.failed ≡ true }
-        ensures asked_fails { self.new.failed ≡ true → AsksUpTo 2 (S.changes site.old) (S.changes site.new) }
-        ensures stays { OnErr result (self.new.failed ≡ false → (self.new ≡ self.old) × (site.new ≡ site.old)) }
-        ensures asked { OnOk result (S.changes site.new ≡ more 2 (S.changes site.old)) }
+        ensures fails { FailsOnceAsked S.Site 2 RecordErr.Disk result self.new.failed self.old self.new site.old site.new }
         ensures name { self.new.name ≡ self.old.name }
 
         // What a cut during it, or after it, may leave: where no name call is in doubt, and in every case.
-        ensures certain { S.shows → S.certain site.old → S.certain site.new }
-        ensures time { S.shows → S.certain site.old → Elapses (S.clock site.old) (S.clock site.new) (S.left_since site.old) (S.left_since site.new)
-            (MayLeave (DoneOrNot (AppendsPartly self.old.name (layout self.old.place payload.now)) (S.disk site.old)) (S.told site.old)) }
-        ensures doubt { S.shows → AppendsInDoubt S.disk S.may_be S.told S.clock S.left_since self.old.name (layout self.old.place payload.now) site.old site.new }
-
+        ensures touches { AppendsAndSyncs S.Site self.old.name (layout self.old.place payload.now) site.old site.new }
         ensures tells_nothing { TellsNothing S.Site site.old site.new }
         ensures disk { IsErrOf result RecordErr.Disk → Rose (S.disk_faults site.old) (S.disk_faults site.new) }
     {

@@ -1,8 +1,8 @@
 -- What many calls share that are given a site: what they leave alone, and what their errors say of it.
 -- Each record takes the members of the site, as in `OnlyReads S.Site`.
 use Rattle.std.specs.Prelude.{◌≡◌, ◌≤◌, Result, IsErrOf}
-use Rattle.bl_site.specs.Disk.{MayLeave}
-use Rattle.bl_site.specs.Calls.{KeepsDisk, Elapses}
+use Rattle.bl_site.specs.Disk.{Name, MayLeave}
+use Rattle.bl_site.specs.Calls.{KeepsDisk, FollowsFile, StandsStill, Elapses}
 use Rattle.bl_site.specs.Causes.{Rose}
 use Rattle.bl_site.specs.declared.site.Site.{Ghosts}
 
@@ -27,3 +27,12 @@ pub record TellsNothing {S : Type 0} (g : Ghosts S) (old new : S) : Type 0 where
 pub record HasCauses {S T E : Type 0} (g : Ghosts S) (disk memory : E) (result : Result T E) (old new : S) : Type 0 where
   pub failed : IsErrOf result disk → Rose (g.disk_faults old) (g.disk_faults new)
   pub no_fault : IsErrOf result memory → g.disk_faults new ≡ g.disk_faults old
+
+-- What a call that appends to this file, or syncs it, leaves of the disks that there may be, and what a cut during it may leave.
+-- At `memory`, want of memory, the files are as before, and no moment has gone by.
+pub record TouchesFile {S T E : Type 0} (g : Ghosts S) (name : Name) (memory : E) (result : Result T E) (old new : S) : Type 0 where
+  pub keeps : g.shows → IsErrOf result memory → KeepsDisk g.disk g.may_be g.certain old new
+  pub certain : g.shows → g.certain old → g.certain new
+  pub doubt : g.shows → FollowsFile name (g.disk old) (g.disk new) (g.may_be old) (g.may_be new)
+  pub time : g.shows → Elapses (g.clock old) (g.clock new) (g.left_since old) (g.left_since new) (MayLeave (g.may_be new) (g.told new))
+  pub still : g.shows → IsErrOf result memory → StandsStill g.clock g.left_since old new

@@ -10,10 +10,6 @@ abbrev pub error_of : RecordErr → WalErr
 error_of record_err.Disk = Disk
 error_of record_err.OutOfMemory = OutOfMemory
 
--- a call that writes fails by the disk or for want of memory
-abbrev pub IsCause : WalErr → Type 0
-IsCause e = (e ≡ Disk) ⊎ (e ≡ OutOfMemory)
-
 -- the folder was asked once; where memory ran out, perhaps not
 abbrev pub ChangesOnce : {T : Type 0} → Result T WalErr → ℕ → ℕ → Type 0
 ChangesOnce (Ok x) before now = now ≡ one_more before

@@ -5,7 +5,7 @@ use Rattle.bl_site.proofs.Moments.{cut_of_only}
 use Rattle.bl_edit.specs.Spelling.{edit_bytes}
 use Rattle.bl_records.specs.declared.error.RecordErr.{RecordErr}
 use Rattle.bl_records.specs.Held.{HoldsRecords, HoldsOneMoreSynced}
-use Rattle.bl_records.proofs.TimeLemmas.{doubt_none}
+use Rattle.bl_records.proofs.TimeLemmas.{doubt_none, elapses_none}
 use Rattle.bl_manifest.specs.declared.error.ManifestErr.{ManifestErr}
 use Rattle.bl_manifest.specs.ManifestFile.{ManifestFile}
 use Rattle.bl_manifest.specs.Held.{HoldsOneMore, ReadsEdits}
@@ -13,8 +13,14 @@ use Rattle.bl_manifest.proofs.HeldLemmas.{Appended, manifest_at, one_read_back, 
 use Rattle.bl_manifest.proofs.LawLemmas.{appended_left}
 use Rattle.bl_manifest.proofs.manifest.Manifest.append.Goals as goal
 
-pub returns-in_err-payload-clause-doubt : goal.returns-in_err-payload-clause-doubt
-returns-in_err-payload-clause-doubt g c = λ shown. let s = g.S.Site in doubt_none s.disk s.may_be s.told s.clock s.left_since _ _ c.args.site.now
+pub returns-in_err-payload-clause-touches : goal.returns-in_err-payload-clause-touches
+returns-in_err-payload-clause-touches g c =
+    let s = g.S.Site in
+    record {
+      certain = λ shown certain. certain;
+      time = λ shown certain. elapses_none s.clock s.left_since c.args.site.now _;
+      doubt = λ shown. doubt_none s.disk s.may_be s.told s.clock s.left_since _ _ c.args.site.now;
+    }
 
 pub returns-in_err-append_synced-clause-holds : goal.returns-in_err-append_synced-clause-holds
 returns-in_err-append_synced-clause-holds g c = λ shown edits synced h.
@@ -34,7 +40,7 @@ returns-in_err-append_synced-clause-holds g c = λ shown edits synced h.
     let P : Result (Unit {0}) ManifestErr → Type 0 = λ r. HoldsOneMore r (s.disk done.new.site) (manifest_at m.number done.new.self) edits e synced in
     let Q : Result (Unit {0}) RecordErr → Type 0 = λ r. HoldsOneMoreSynced r (s.disk done.new.site) done.new.self (map edit_bytes edits) payload synced in
     subst P (sym (p.1 ∙ ap Err p.2))
-    (failed_append (s.disk done.new.site) m.number done.new.self edits e payload synced a c.in_err-append_synced.field-0.0 (λ is. done.ensures.disk_fails (c.in_err-append_synced.was ∙ ap Err is))
+    (failed_append (s.disk done.new.site) m.number done.new.self edits e payload synced a c.in_err-append_synced.field-0.0 (λ is. done.ensures.fails.disk_fails (c.in_err-append_synced.was ∙ ap Err is))
     (subst Q c.in_err-append_synced.was (done.ensures.holds shown (map edit_bytes edits) synced (records_of (s.disk c.args.site.now) m.number m.records c.args.self.now edits synced c.self.view_is c.self.invariant.1 h))))
 
 pub returns-clause-holds : goal.returns-clause-holds
@@ -66,4 +72,4 @@ returns-clause-durable g c = λ shown certain edits synced h cut leaves.
     let N : ℕ → Type 0 = λ n. ReadsEdits cut.folder n (edits ++ e ∷ []) in
     subst N (ap (λ (m : ManifestFile). m.number) c.self.view_is)
     (appended_left c.synced_manifests_are_left.ensures (s.disk new) (manifest_at c.self.inside.number done.new.self) edits e (s.told new) cut (returns-clause-holds g c shown edits synced h)
-    (cut_of_only (s.may_be new) (s.disk new) (s.told new) cut (λ other may. g.met.S.Site.only shown new other (done.ensures.certain shown certain) may) leaves))
+    (cut_of_only (s.may_be new) (s.disk new) (s.told new) cut (λ other may. g.met.S.Site.only shown new other (done.ensures.touches.certain shown certain) may) leaves))

@@ -46,7 +46,7 @@ returns-in_err-append_synced-clause-doubt g c = λ shown.
     let second : w.name ≡ name = ap (λ (f : WrittenFile). f.name) c.in_ok-records.ensures.made ∙ c.in_ok-name.ensures in
     let are : given ≡ record_ = ap (λ (f : WrittenFile). layout f.place payload) c.in_ok-records.ensures.made ∙ ap (layout 0) (c.as_slice.ensures ∙ c.in_ok-payload.ensures.bytes) in
     made_doubt s.clock s.left_since s.disk s.told s.may_be name record_ old new (g.met.S.Site.reads shown old)
-    (λ other may. g.met.S.Site.only shown new other (done.ensures.certain shown (c.in_ok-records.ensures.certain shown)) may)
+    (λ other may. g.met.S.Site.only shown new other (done.ensures.touches.certain shown (c.in_ok-records.ensures.certain shown)) may)
     (made_outcome name record_ called w.name given (s.disk old) (s.disk mid) (s.disk new) c.in_ok-name.ensures second are (c.in_ok-records.ensures.created shown)
     (partly_done w.name given (s.disk mid) (s.disk new) done.result (done.ensures.appended shown) (done.ensures.torn shown) (done.ensures.memory shown)))
 
@@ -67,7 +67,7 @@ returns-in_err-append_synced-clause-time g c = λ shown.
     let second : w.name ≡ name = ap (λ (f : WrittenFile). f.name) c.in_ok-records.ensures.made ∙ c.in_ok-name.ensures in
     let are : given ≡ record_ = ap (λ (f : WrittenFile). layout f.place payload) c.in_ok-records.ensures.made ∙ ap (layout 0) (c.as_slice.ensures ∙ c.in_ok-payload.ensures.bytes) in
     making_called s.clock s.left_since s.disk s.told s.may_be name record_ called w.name given old mid new c.in_ok-name.ensures second are (c.in_ok-records.ensures.created shown) (g.met.S.Site.reads shown old)
-    (made.time shown) (done.ensures.time shown (c.in_ok-records.ensures.certain shown)) (made.tells_nothing.told shown)
+    (made.time shown) (done.ensures.touches.time shown (c.in_ok-records.ensures.certain shown)) (made.tells_nothing.told shown)
 
 pub returns-clause-doubt : goal.returns-clause-doubt
 returns-clause-doubt g c = λ shown.
@@ -86,7 +86,7 @@ returns-clause-doubt g c = λ shown.
     let second : w.name ≡ name = ap (λ (f : WrittenFile). f.name) c.in_ok-records.ensures.made ∙ c.in_ok-name.ensures in
     let are : given ≡ record_ = ap (λ (f : WrittenFile). layout f.place payload) c.in_ok-records.ensures.made ∙ ap (layout 0) (c.as_slice.ensures ∙ c.in_ok-payload.ensures.bytes) in
     made_doubt s.clock s.left_since s.disk s.told s.may_be name record_ old new (g.met.S.Site.reads shown old)
-    (λ other may. g.met.S.Site.only shown new other (done.ensures.certain shown (c.in_ok-records.ensures.certain shown)) may)
+    (λ other may. g.met.S.Site.only shown new other (done.ensures.touches.certain shown (c.in_ok-records.ensures.certain shown)) may)
     (made_outcome name record_ called w.name given (s.disk old) (s.disk mid) (s.disk new) c.in_ok-name.ensures second are (c.in_ok-records.ensures.created shown)
     (partly_done w.name given (s.disk mid) (s.disk new) done.result (done.ensures.appended shown) (done.ensures.torn shown) (done.ensures.memory shown)))
 
@@ -107,18 +107,18 @@ returns-clause-time g c = λ shown.
     let second : w.name ≡ name = ap (λ (f : WrittenFile). f.name) c.in_ok-records.ensures.made ∙ c.in_ok-name.ensures in
     let are : given ≡ record_ = ap (λ (f : WrittenFile). layout f.place payload) c.in_ok-records.ensures.made ∙ ap (layout 0) (c.as_slice.ensures ∙ c.in_ok-payload.ensures.bytes) in
     making_called s.clock s.left_since s.disk s.told s.may_be name record_ called w.name given old mid new c.in_ok-name.ensures second are (c.in_ok-records.ensures.created shown) (g.met.S.Site.reads shown old)
-    (made.time shown) (done.ensures.time shown (c.in_ok-records.ensures.certain shown)) (made.tells_nothing.told shown)
+    (made.time shown) (done.ensures.touches.time shown (c.in_ok-records.ensures.certain shown)) (made.tells_nothing.told shown)
 
 pub returns-in_err-append_synced-clause-asked : goal.returns-in_err-append_synced-clause-asked
 returns-in_err-append_synced-clause-asked g c = λ is.
     let s = g.S.Site in
     let done = c.append_synced in
     let P : Result (Unit {0}) RecordErr → Type 0 = λ r. OnErr r (done.new.self.failed ≡ false → (done.new.self ≡ c.in_ok-records.records) × (done.new.site ≡ c.create.new.site)) in
-    asks_some _ _ _ done.new.self.failed c.create.ensures.changes done.ensures.asked_fails (λ still. ap s.changes (subst P c.in_err-append_synced.was done.ensures.stays still).1)
+    asks_some _ _ _ done.new.self.failed c.create.ensures.changes done.ensures.fails.asked_fails (λ still. ap s.changes (subst P c.in_err-append_synced.was done.ensures.fails.stays still).1)
 
 pub returns-in_err-append_synced-clause-memory : goal.returns-in_err-append_synced-clause-memory
 returns-in_err-append_synced-clause-memory g c = λ is.
     let s = g.S.Site in
     let done = c.append_synced in
     let P : Result (Unit {0}) RecordErr → Type 0 = λ r. OnErr r (done.new.self.failed ≡ false → (done.new.self ≡ c.in_ok-records.records) × (done.new.site ≡ c.create.new.site)) in
-    inr (asks_some _ _ _ done.new.self.failed c.create.ensures.changes done.ensures.asked_fails (λ still. ap s.changes (subst P c.in_err-append_synced.was done.ensures.stays still).1))
+    inr (asks_some _ _ _ done.new.self.failed c.create.ensures.changes done.ensures.fails.asked_fails (λ still. ap s.changes (subst P c.in_err-append_synced.was done.ensures.fails.stays still).1))

@@ -93,7 +93,7 @@ returns-in_err-wal-clause-others g c = λ shown.
     let new = disk c.create.new.site in
     others_then (disk c.args.site.now) mid new (c.read_logs.ensures.others shown) (log_alone c.in_ok-number.number mid new is (elim c.in_err-wal.ensures.errors [
       | inl failed ↦ create_alone (log_name c.in_ok-number.number) mid new (c.in_err-wal.ensures.failed shown (ap Err failed))
-      | inr memory ↦ all_same (log_name c.in_ok-number.number) mid new (c.in_err-wal.ensures.memory shown (ap Err memory))
+      | inr memory ↦ all_same (log_name c.in_ok-number.number) mid new (c.in_err-wal.ensures.keeps shown (ap Err memory)).same
     ]))
 
 pub returns-clause-others : goal.returns-clause-others
@@ -153,7 +153,7 @@ returns-in_err-wal-clause-made g c = λ shown next.
             let read = c.in_ok-memory.ensures.read shown in
             is_opened c.names_one.ensures folder mid new (map_in m.map.entries) m.last m.greatest number read c.in_ok-number.ensures.next.0 c.in_ok-number.ensures.next.1 made
       ]
-      | inr memory ↦ none (c.in_err-wal.ensures.memory shown (ap Err memory))
+      | inr memory ↦ none (c.in_err-wal.ensures.keeps shown (ap Err memory)).same
     ]
 
 pub returns-clause-made : goal.returns-clause-made

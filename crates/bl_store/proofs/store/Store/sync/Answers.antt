@@ -20,7 +20,7 @@ returns-in-Err-clause-held g c = λ shown older own synced.
     changes c.names_one.ensures here.log older own synced here.last old new c.sync.new.self own synced here.last carries.on (ap (λ (l : LogFile). l.number) c.in-Err.ensures.fails)
     (elim c.in-Err.ensures.errors [
       | inl d ↦ (c.in-Err.ensures.frayed shown (ap Err d)).puts.others
-      | inr m ↦ λ other ne. ap (λ (d : Disk). d other) (c.in-Err.ensures.keeps shown (ap Err m)).same
+      | inr m ↦ λ other ne. ap (λ (d : Disk). d other) (c.in-Err.ensures.touches.keeps shown (ap Err m)).same
     ]) (c.in-Err.ensures.holds shown own synced carries.on.holds) carries.on.follow)
 
 pub returns-clause-carried : goal.returns-clause-carried
@@ -47,7 +47,7 @@ returns-in-Err-clause-others g c = λ shown.
     let P : Stored → Type 0 = λ s. KeepsAllBut (log_name s.log.number) old new in
     subst P c.self.view_is (elim c.in-Err.ensures.errors [
       | inl failed ↦ (c.in-Err.ensures.frayed shown (ap Err failed)).puts.others
-      | inr memory ↦ all_same (log_name here.log.number) old new (c.in-Err.ensures.keeps shown (ap Err memory)).same
+      | inr memory ↦ all_same (log_name here.log.number) old new (c.in-Err.ensures.touches.keeps shown (ap Err memory)).same
     ])
 
 pub returns-clause-others : goal.returns-clause-others
@@ -71,7 +71,7 @@ returns-in-Err-clause-cuts g c = λ shown sure older own synced carries.
     let new = c.sync.new.site in
     sync_stands site c.cuts_stand.ensures old (g.met.S.Site.only_now shown old) (λ other. g.met.S.Site.only shown old other sure)
     store.log older own synced store.last carries.on new c.sync.new.self synced (c.sync.ensures.tells_nothing.told shown)
-    (λ other. g.met.S.Site.only shown new other (c.sync.ensures.certain shown sure)) (c.sync.ensures.time shown) (omega arith) (returns-in-Err-clause-held g c shown older own synced carries)
+    (λ other. g.met.S.Site.only shown new other (c.sync.ensures.touches.certain shown sure)) (c.sync.ensures.touches.time shown) (omega arith) (returns-in-Err-clause-held g c shown older own synced carries)
 
 pub returns-clause-cuts : goal.returns-clause-cuts
 returns-clause-cuts g c = λ shown sure older own synced carries.
@@ -82,4 +82,4 @@ returns-clause-cuts g c = λ shown sure older own synced carries.
     let L : ℕ → Type 0 = λ l. StandsOn c.sync.new.self older own (length own) l (site.disk new) in
     sync_stands site c.cuts_stand.ensures old (g.met.S.Site.only_now shown old) (λ other. g.met.S.Site.only shown old other sure)
     store.log older own synced store.last carries.on new c.sync.new.self (length own) (c.sync.ensures.tells_nothing.told shown)
-    (λ other. g.met.S.Site.only shown new other (c.sync.ensures.certain shown sure)) (c.sync.ensures.time shown) (within_of record_of own synced carries.on.holds.within) (subst L (ap (λ (s : Stored). s.last) c.self.view_is) (returns-clause-carried g c shown older own synced carries).on)
+    (λ other. g.met.S.Site.only shown new other (c.sync.ensures.touches.certain shown sure)) (c.sync.ensures.touches.time shown) (within_of record_of own synced carries.on.holds.within) (subst L (ap (λ (s : Stored). s.last) c.self.view_is) (returns-clause-carried g c shown older own synced carries).on)

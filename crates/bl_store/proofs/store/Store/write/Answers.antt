@@ -15,7 +15,7 @@ returns-in-Err-clause-held g c = λ shown older own synced.
     let P : Stored → Type 0 = λ s. Carries s older own synced old → MayHold s next c.args.batch.now older own synced new in
     subst P c.self.view_is (λ carries.
     may_hold c.records_are_batches.ensures.next c.names_one.ensures here c.append.new.self c.args.batch.now older own synced old new c.in-Err.error c.append.ensures.number
-    (c.in-Err.ensures.holds shown own synced carries.on.holds) (λ is. (c.in-Err.ensures.torn shown is).appends.puts.others) (c.in-Err.ensures.memory shown) c.in-Err.ensures.reads_torn carries)
+    (c.in-Err.ensures.holds shown own synced carries.on.holds) (λ is. (c.in-Err.ensures.torn shown is).appends.puts.others) (λ is. (c.in-Err.ensures.touches.keeps shown is).same) c.in-Err.ensures.reads_torn carries)
 
 pub returns-in-Err-put_operations-clause-held : goal.returns-in-Err-put_operations-clause-held
 returns-in-Err-put_operations-clause-held g c = λ shown older own synced.
@@ -50,7 +50,7 @@ returns-in-Err-clause-others g c = λ shown.
     let P : Stored → Type 0 = λ s. KeepsAllBut (log_name s.log.number) old new in
     subst P c.self.view_is (elim c.in-Err.ensures.errors [
       | inl failed ↦ (c.in-Err.ensures.torn shown (ap Err failed)).appends.puts.others
-      | inr memory ↦ all_same (log_name here.log.number) old new (c.in-Err.ensures.memory shown (ap Err memory))
+      | inr memory ↦ all_same (log_name here.log.number) old new (c.in-Err.ensures.touches.keeps shown (ap Err memory)).same
     ])
 
 pub returns-in-Err-put_operations-clause-others : goal.returns-in-Err-put_operations-clause-others
@@ -90,7 +90,7 @@ returns-in-Err-clause-cuts g c = λ shown sure older own synced carries.
     let new = c.append.new.site in
     append_stands site c.cuts_stand.ensures old (g.met.S.Site.only_now shown old) (λ other. g.met.S.Site.only shown old other sure)
     store.log older own synced store.last carries.on new c.append.new.self (b ∷ []) (store.last + length c.args.batch.now) (c.append.ensures.tells_nothing.told shown)
-    (λ other. g.met.S.Site.only shown new other (c.append.ensures.certain shown sure)) (c.append.ensures.time shown) (returns-in-Err-clause-held g c shown older own synced carries)
+    (λ other. g.met.S.Site.only shown new other (c.append.ensures.touches.certain shown sure)) (c.append.ensures.touches.time shown) (returns-in-Err-clause-held g c shown older own synced carries)
 
 pub returns-in-Err-put_operations-clause-cuts : goal.returns-in-Err-put_operations-clause-cuts
 returns-in-Err-put_operations-clause-cuts g c = λ shown sure older own synced carries.
@@ -101,7 +101,7 @@ returns-in-Err-put_operations-clause-cuts g c = λ shown sure older own synced c
     let new = c.append.new.site in
     append_stands site c.cuts_stand.ensures old (g.met.S.Site.only_now shown old) (λ other. g.met.S.Site.only shown old other sure)
     store.log older own synced store.last carries.on new c.append.new.self (b ∷ []) (store.last + length c.args.batch.now) (c.append.ensures.tells_nothing.told shown)
-    (λ other. g.met.S.Site.only shown new other (c.append.ensures.certain shown sure)) (c.append.ensures.time shown) (returns-in-Err-put_operations-clause-held g c shown older own synced carries)
+    (λ other. g.met.S.Site.only shown new other (c.append.ensures.touches.certain shown sure)) (c.append.ensures.touches.time shown) (returns-in-Err-put_operations-clause-held g c shown older own synced carries)
 
 pub returns-clause-cuts : goal.returns-clause-cuts
 returns-clause-cuts g c = λ shown sure older own synced carries.
@@ -113,4 +113,4 @@ returns-clause-cuts g c = λ shown sure older own synced carries.
     let L : ℕ → Type 0 = λ l. StandsOn c.append.new.self older (own ++ b ∷ []) synced l (site.disk new) in
     append_stands site c.cuts_stand.ensures old (g.met.S.Site.only_now shown old) (λ other. g.met.S.Site.only shown old other sure)
     store.log older own synced store.last carries.on new c.append.new.self (b ∷ []) (store.last + length c.args.batch.now) (c.append.ensures.tells_nothing.told shown)
-    (λ other. g.met.S.Site.only shown new other (c.append.ensures.certain shown sure)) (c.append.ensures.time shown) (inr (subst L (ap (λ n. c.self.inside.last + n) (c.from-count.ensures ∙ c.count.ensures) ∙ ap (λ (s : Stored). s.last + length c.args.batch.now) c.self.view_is) (returns-clause-carried g c shown older own synced carries).on))
+    (λ other. g.met.S.Site.only shown new other (c.append.ensures.touches.certain shown sure)) (c.append.ensures.touches.time shown) (inr (subst L (ap (λ n. c.self.inside.last + n) (c.from-count.ensures ∙ c.count.ensures) ∙ ap (λ (s : Stored). s.last + length c.args.batch.now) c.self.view_is) (returns-clause-carried g c shown older own synced carries).on))
