@@ -10,13 +10,13 @@ use Rattle.std.specs.declared.cmp.Ordering.{Ordering}
 use Rattle.std.specs.declared.cmp.Ordering.TheVariants.{Less, Equal, Greater}
 use Rattle.std.proofs.lemmas.Bool.{false≢true, eqb-true, eq-eqb}
 use Rattle.std.proofs.lemmas.List.Folds.{list_any-append}
+use Rattle.std.specs.Cmp.{first_so, second_so}
 use Rattle.bl_code.specs.Order.{bytes_cmp, same_bytes}
 use Rattle.bl_entry.specs.declared.key.Entry.{Entry}
 use Rattle.bl_entry.specs.Entries.{IsAscending, last_of, stands_before}
 use Rattle.bl_entry.specs.Keys.{Key, key_cmp, key_number}
 use Rattle.bl_entry.specs.Kept.{NewestStandsFirst, alike, follows_alike, stripe}
-use Rattle.bl_entry.proofs.KeptLemmas.{and_second, seq_falls, stripe_le}
-use Rattle.bl_entry.proofs.LatestLemmas.{and_first}
+use Rattle.bl_entry.proofs.KeptLemmas.{seq_falls, stripe_le}
 use Rattle.bl_entry.proofs.OrderLemmas.{AreBehind, eq_of, key_total}
 
 not_greater : (k n : Ordering) → k ≡ Greater → ordering_then k n ≡ Less → ⊥
@@ -38,8 +38,8 @@ between snapshots x l e xl le h =
     let sx : ℕ = stripe snapshots x.key.seq in
     let sl : ℕ = stripe snapshots l.key.seq in
     let se : ℕ = stripe snapshots e.key.seq in
-    let xe : bytes_cmp x.key.user e.key.user ≡ Equal = eq_of (bytes_cmp x.key.user e.key.user) (and_first (same_bytes x.key.user e.key.user) (sx == se) h) in
-    let stripes : sx ≡ se = eqb-true sx se (and_second (same_bytes x.key.user e.key.user) (sx == se) h) in
+    let xe : bytes_cmp x.key.user e.key.user ≡ Equal = eq_of (bytes_cmp x.key.user e.key.user) (first_so (same_bytes x.key.user e.key.user) (sx == se) h) in
+    let stripes : sx ≡ se = eqb-true sx se (second_so (same_bytes x.key.user e.key.user) (sx == se) h) in
     let same : bytes_cmp x.key.user l.key.user ≡ Equal = user_same x.key l.key e.key xe xl le in
     let user : bytes_cmp l.key.user e.key.user ≡ Equal = sym (nat_list_cmp_total.congr x.key.user l.key.user e.key.user same) ∙ xe in
     let high : sl ≤ sx = stripe_le snapshots l.key.seq x.key.seq (seq_falls x l same xl) in
@@ -93,7 +93,7 @@ any_front snapshots e (x ∷ []) up front =
 any_front snapshots e (x ∷ y ∷ es) up front =
     ap (λ b. comes_first snapshots e x || b) (any_front snapshots e (y ∷ es) up.1 front.1)
     ∙ or_same (comes_first snapshots e x) (follows_alike snapshots (last_of (y ∷ es)) e)
-    (λ t. last_behind snapshots e x y es up front (and_first (alike snapshots x e) (stands_before x e) t))
+    (λ t. last_behind snapshots e x y es up front (first_so (alike snapshots x e) (stands_before x e) t))
 
 before_one : (k : Key) (front back : List Entry) (e : Entry) → AreBehind k (front ++ e ∷ back) → key_cmp k e.key ≡ Less
 before_one k [] back e h = h.0

@@ -10,6 +10,7 @@ use Rattle.std.specs.Ordering.{nat_cmp, is_eq, is_lt, ordering_then}
 use Rattle.std.specs.declared.cmp.Ordering.TheVariants.{Less, Equal}
 use Rattle.std.proofs.lemmas.Bool.{false≢true, eqb-true, eq-eqb, lt-ltb, leb-true, leb-false}
 use Rattle.std.proofs.lemmas.List.Sums.{sum_by-cons}
+use Rattle.std.specs.Cmp.{first_so, second_so}
 use Rattle.bl_code.specs.Order.{bytes_cmp, same_bytes}
 use Rattle.bl_code.proofs.Basics.{all_from}
 use Rattle.bl_entry.specs.declared.key.Entry.{Entry}
@@ -18,7 +19,7 @@ use Rattle.bl_entry.specs.Keys.{key_cmp, key_number, kind_number}
 use Rattle.bl_entry.specs.Kept.{KeptAtTheBottomTellTheSame, KeptTellTheSame, MayBeAsked, alike, is_newest, is_oldest_deletion, kept, stripe}
 use Rattle.bl_entry.specs.Latest.{is_seen, latest, revision_of}
 use Rattle.bl_entry.proofs.ListLemmas.{any_there, by_test, find_kept, find_none_kept, find_passes, find_there, none_passes}
-use Rattle.bl_entry.proofs.LatestLemmas.{AreNoLater, IsNoLater, all_of, and_first, found_first, found_later, latest_is_the_value, newest_is, same_of}
+use Rattle.bl_entry.proofs.LatestLemmas.{AreNoLater, IsNoLater, all_of, found_first, found_later, latest_is_the_value, newest_is, same_of}
 use Rattle.bl_entry.proofs.OrderLemmas.{AreBehind, ascending_in_order, eq_of, kind_small, nat_cmp_lt, order_filtered}
 
 -- ---- stripes
@@ -53,10 +54,6 @@ stripe_lt (x ∷ ss) a b s (suc k) lt e le l =
 
 -- ---- the latest entry is the newest of its stripe
 
-pub and_second : (a b : Bool) → (a && b) ≡ true → b ≡ true
-and_second true b h = h
-and_second false b h = absurd (false≢true h)
-
 abbrev IsAllowed : List ℕ → ℕ → Entry → Type 0
 IsAllowed snapshots seq e = Contains snapshots seq ⊎ (e.key.seq ≤ seq)
 
@@ -65,13 +62,13 @@ other_apart : (snapshots : List ℕ) (key : List ℕ) (seq : ℕ) (e other : Ent
 other_apart snapshots key seq e other seen_e no_later at =
     by_test (alike snapshots other e && stands_before other e)
     (λ t.
-    let like : alike snapshots other e ≡ true = and_first (alike snapshots other e) (stands_before other e) t in
-    let before : stands_before other e ≡ true = and_second (alike snapshots other e) (stands_before other e) t in
-    let user : bytes_cmp other.key.user e.key.user ≡ Equal = eq_of (bytes_cmp other.key.user e.key.user) (and_first (same_bytes other.key.user e.key.user) (stripe snapshots other.key.seq == stripe snapshots e.key.seq) like) in
+    let like : alike snapshots other e ≡ true = first_so (alike snapshots other e) (stands_before other e) t in
+    let before : stands_before other e ≡ true = second_so (alike snapshots other e) (stands_before other e) t in
+    let user : bytes_cmp other.key.user e.key.user ≡ Equal = eq_of (bytes_cmp other.key.user e.key.user) (first_so (same_bytes other.key.user e.key.user) (stripe snapshots other.key.seq == stripe snapshots e.key.seq) like) in
     let one : stripe snapshots other.key.seq ≡ stripe snapshots e.key.seq =
-    eqb-true (stripe snapshots other.key.seq) (stripe snapshots e.key.seq) (and_second (same_bytes other.key.user e.key.user) (stripe snapshots other.key.seq == stripe snapshots e.key.seq) like) in
+    eqb-true (stripe snapshots other.key.seq) (stripe snapshots e.key.seq) (second_so (same_bytes other.key.user e.key.user) (stripe snapshots other.key.seq == stripe snapshots e.key.seq) like) in
     let of_key : bytes_cmp other.key.user key ≡ Equal = nat_list_cmp_total.congr other.key.user e.key.user key user ∙ same_of key seq e seen_e in
-    let within : e.key.seq ≤ seq = leb-true e.key.seq seq (and_second (same_bytes e.key.user key) (nat_le e.key.seq seq) seen_e) in
+    let within : e.key.seq ≤ seq = leb-true e.key.seq seq (second_so (same_bytes e.key.user key) (nat_le e.key.seq seq) seen_e) in
     by_test (nat_le other.key.seq seq)
     (λ s.
     let seen_other : is_seen key seq other ≡ true = (λ i. is_eq (of_key i) && s i) in
@@ -161,7 +158,7 @@ goes snapshots key seq es e x there se old sx (inl same) = ap (λ b. is_newest s
 goes snapshots key seq es e x there se old sx (inr less) =
     let users : bytes_cmp e.key.user x.key.user ≡ Equal = nat_list_cmp_total.congr e.key.user key x.key.user (same_of key seq e se) ∙ tied_back nat_list_cmp_total x.key.user key (same_of key seq x sx) in
     let falls : x.key.seq ≤ e.key.seq = seq_falls e x users less in
-    let lowest : stripe snapshots e.key.seq ≡ 0 = eqb-true (stripe snapshots e.key.seq) 0 (and_second (is_deletion e.key.kind) (stripe snapshots e.key.seq == 0) old) in
+    let lowest : stripe snapshots e.key.seq ≡ 0 = eqb-true (stripe snapshots e.key.seq) 0 (second_so (is_deletion e.key.kind) (stripe snapshots e.key.seq == 0) old) in
     let below : stripe snapshots x.key.seq ≤ stripe snapshots e.key.seq = stripe_le snapshots x.key.seq e.key.seq falls in
     let one : stripe snapshots e.key.seq ≡ stripe snapshots x.key.seq = omega arith in
     let first : (alike snapshots e x && stands_before e x) ≡ true = λ i. (is_eq (users i) && eq-eqb (stripe snapshots e.key.seq) (stripe snapshots x.key.seq) one i) && is_lt (less i) in
@@ -189,7 +186,7 @@ value_kept snapshots key seq es (Some e) up at f =
     by_test (is_oldest_deletion snapshots e)
     (λ old.
     ap put_in (none_left snapshots key seq es e up f old)
-    ∙ sym (deletion_puts e (and_first (is_deletion e.key.kind) (stripe snapshots e.key.seq == 0) old)))
+    ∙ sym (deletion_puts e (first_so (is_deletion e.key.kind) (stripe snapshots e.key.seq == 0) old)))
     (λ young. ap put_in (found_stays snapshots true key seq es e (ascending_in_order es up) at f young))
 
 pub kept_at_the_bottom_tell_the_same : KeptAtTheBottomTellTheSame

@@ -1,6 +1,6 @@
 -- What the latest entry of a user key is, and what it tells, in a list that may have equal keys.
 use Rattle.std.proofs.Common.{◌≡◌, ℕ, ◌<◌, ◌≤◌, Bool, true, false, cond, nat_lt, List, [], ◌∷◌, map, refl, sym, ◌∙◌, ap, subst, arith}
-use Rattle.std.specs.Prelude.{◌&&◌, nat_le, Contains, Option, Some, None, option_and_then}
+use Rattle.std.specs.Prelude.{nat_le, Contains, Option, Some, None, option_and_then}
 use Rattle.std.specs.Cmp.{tied_back, tied_itself}
 use Rattle.std.specs.Cmp.Lexicographic.{nat_list_cmp_total}
 use Rattle.std.specs.List.{AllByRecursion}
@@ -8,6 +8,7 @@ use Rattle.std.specs.Option.{option_map}
 use Rattle.std.specs.Ordering.{nat_cmp, is_lt, ordering_then}
 use Rattle.std.specs.declared.cmp.Ordering.TheVariants.{Equal}
 use Rattle.std.proofs.lemmas.Bool.{false≢true}
+use Rattle.std.specs.Cmp.{first_so}
 use Rattle.bl_code.specs.Order.{bytes_cmp, same_bytes}
 use Rattle.bl_code.proofs.Basics.{all_get}
 use Rattle.bl_entry.specs.declared.key.Entry.{Entry}
@@ -18,12 +19,8 @@ use Rattle.bl_entry.specs.Revisions.{later, newest, seen}
 use Rattle.bl_entry.proofs.ListLemmas.{by_test, find_holds, find_passes, find_there}
 use Rattle.bl_entry.proofs.OrderLemmas.{NoneBefore, eq_of, key_total, kind_small, nat_cmp_ge}
 
-pub and_first : (a b : Bool) → (a && b) ≡ true → a ≡ true
-and_first true b h = refl
-and_first false b h = h
-
 pub same_of : (key : List ℕ) (seq : ℕ) (e : Entry) → is_seen key seq e ≡ true → bytes_cmp e.key.user key ≡ Equal
-same_of key seq e h = eq_of (bytes_cmp e.key.user key) (and_first (same_bytes e.key.user key) (nat_le e.key.seq seq) h)
+same_of key seq e h = eq_of (bytes_cmp e.key.user key) (first_so (same_bytes e.key.user key) (nat_le e.key.seq seq) h)
 
 -- the second is no later than the first, and does not stand before it
 abbrev pub IsNoLater : Entry → Entry → Type 0

@@ -2,6 +2,7 @@
 use Rattle.std.proofs.Common.{◌≡◌, zero, suc, ◌<◌, Bool, true, false, cond, List, [], ◌∷◌, ◌++◌, length, refl, sym, ◌∙◌, ap, subst, arith}
 use Rattle.std.specs.Prelude.{◌||◌, find, filter, Contains, Some, None}
 use Rattle.std.specs.List.{AllByRecursion, list_any}
+use Rattle.std.proofs.lemmas.Bool.{or_right}
 
 pub all_append : {A : Type 0} (P : A → Type 0) (xs ys : List A) → AllByRecursion P xs → AllByRecursion P ys → AllByRecursion P (xs ++ ys)
 all_append P [] ys h k = k
@@ -75,8 +76,4 @@ any_there p [] x (k, lt, is) h = absurd (omega arith)
 any_there p (y ∷ xs) x (zero, lt, is) h = ap (λ b. b || list_any p xs) (ap p is ∙ h)
 any_there p (y ∷ xs) x (suc k, lt, is) h =
     let small : k < length xs = omega arith in
-    ap (λ b. p y || b) (any_there p xs x (k, small, is) h) ∙ or_true (p y)
-  where
-    or_true : (b : Bool) → (b || true) ≡ true
-    or_true true = refl
-    or_true false = refl
+    or_right (p y) (list_any p xs) (any_there p xs x (k, small, is) h)
