@@ -1,7 +1,7 @@
 -- No store stands on a disk whose batches pass the greatest sequence.
 use Rattle.std.proofs.Common.{◌≡◌, ◌⊎◌, ℕ, ◌+◌, ◌^◌, ◌<◌, ◌≤◌, List, [], ◌∷◌, ◌++◌, length, map, Bool, true, false, refl, sym, ◌∙◌, ap, subst, arith, inl, inr, Option, Some, None}
 use Rattle.std.specs.Prelude.{cond, ◌==◌, ◌||◌, nat_le, Ok, Err, Result}
-use Rattle.std.proofs.lemmas.Bool.{leb-true, eqb-true}
+use Rattle.std.proofs.lemmas.Bool.{leb-true, eqb-true, or_cases}
 use Rattle.std.proofs.lemmas.List.Sums.{sum_by-append, sum_by-cons}
 use Rattle.std.proofs.lemmas.Option.{same_Some}
 use Rattle.bl_site.specs.Disk.{Disk, folder_of}
@@ -24,10 +24,6 @@ use Rattle.bl_shell.specs.Machine.{Line, Write, writes_of, written_by, operation
 use Rattle.bl_shell.specs.Carried.{IsServable, IsWrite, HasRoom, operations_of}
 use Rattle.bl_shell.proofs.StayLemmas.{next_number}
 
-either_true : (a b : Bool) → (a || b) ≡ true → (a ≡ true) ⊎ (b ≡ true)
-either_true true b h = inl refl
-either_true false b h = inr h
-
 -- the last steps of reading a batch
 abbrev sequences_then : ℕ → ℕ → List Operation → Result Batch BadBatch
 sequences_then first count operations = need ((count == 0) || nat_le (first + count) (2 ^ 56)) (At rule.Sequence 0) >>= λ _. Ok (record { first = first; operations = operations })
@@ -46,7 +42,7 @@ abbrev HasSequences : Batch → Type 0
 HasSequences b = (length b.operations ≡ 0) ⊎ (b.first + length b.operations ≤ 2 ^ 56)
 
 room_of : (first count : ℕ) (operations : List Operation) → length operations ≡ count → ((count == 0) || nat_le (first + count) (2 ^ 56)) ≡ true → HasSequences (record { first = first; operations = operations })
-room_of first count operations size test = elim (either_true (count == 0) (nat_le (first + count) (2 ^ 56)) test) [
+room_of first count operations size test = elim (or_cases (count == 0) (nat_le (first + count) (2 ^ 56)) test) [
   | inl none ↦ inl (size ∙ eqb-true count 0 none)
   | inr le ↦ inr (omega (arith, leb-true (first + count) (2 ^ 56) le, size))
 ]

@@ -3,6 +3,7 @@ use Rattle.std.proofs.Common.{◌≡◌, ◌⊎◌, ℕ, zero, suc, ◌+◌, ◌
 use Rattle.std.specs.List.{list_any}
 use Rattle.std.specs.FinMap.{empty}
 use Rattle.std.proofs.Math.Seq.{take-append-add}
+use Rattle.std.proofs.Math.Bool.{or-false, or-true}
 use Rattle.std.proofs.lemmas.Bool.{le-leb, leb-true}
 use Rattle.std.proofs.lemmas.List.{nil_from_length}
 use Rattle.std.proofs.lemmas.Bool.Decides.{nat_tests}
@@ -91,14 +92,6 @@ pub no_syncs : before_sync [] ≡ 0
 unfolding before_sync
 no_syncs = refl
 
-or_true : (b : Bool) → (b || true) ≡ true
-or_true true = refl
-or_true false = refl
-
-or_false : (b : Bool) → (b || false) ≡ b
-or_false true = refl
-or_false false = refl
-
 any_syncs : (done : List Line) (line : Line) (b : Bool) → syncs line.order ≡ b → list_any (λ (l : Line). syncs l.order) (done ++ line ∷ []) ≡ (list_any (λ (l : Line). syncs l.order) done || (b || false))
 any_syncs done line b is = list_any-append (λ (l : Line). syncs l.order) done (line ∷ []) ∙ ap (λ x. list_any (λ (l : Line). syncs l.order) done || (x || false)) is
 
@@ -107,10 +100,10 @@ unfolding before_sync
 by_line [] line true is = refl
 by_line [] line false is = refl
 by_line (x ∷ done) line true is =
-    let a : list_any (λ (l : Line). syncs l.order) (done ++ line ∷ []) ≡ true = any_syncs done line true is ∙ or_true (list_any (λ (l : Line). syncs l.order) done) in
+    let a : list_any (λ (l : Line). syncs l.order) (done ++ line ∷ []) ≡ true = any_syncs done line true is ∙ or-true (list_any (λ (l : Line). syncs l.order) done) in
     ap (λ b. cond b (length x.wrote + before_sync (done ++ line ∷ [])) 0) a ∙ ap (λ n. length x.wrote + n) (by_line done line true is) ∙ sym (length-append x.wrote (written_by done))
 by_line (x ∷ done) line false is =
-    let a : list_any (λ (l : Line). syncs l.order) (done ++ line ∷ []) ≡ list_any (λ (l : Line). syncs l.order) done = any_syncs done line false is ∙ or_false (list_any (λ (l : Line). syncs l.order) done) in
+    let a : list_any (λ (l : Line). syncs l.order) (done ++ line ∷ []) ≡ list_any (λ (l : Line). syncs l.order) done = any_syncs done line false is ∙ or-false (list_any (λ (l : Line). syncs l.order) done) in
     ap (λ b. cond b (length x.wrote + before_sync (done ++ line ∷ [])) 0) a ∙ ap (λ n. cond (list_any (λ (l : Line). syncs l.order) done) (length x.wrote + n) 0) (by_line done line false is)
 
 -- one line more: if it syncs, all writes are before it

@@ -1,5 +1,5 @@
 -- The numbers of the logs in a folder, as a walk goes over them.
-use Rattle.std.proofs.Common.{◌≡◌, ℕ, zero, suc, ◌↔◌, ◌^◌, ◌<◌, List, [], ◌∷◌, Bool, true, false, refl, sym, ◌∙◌, ap, subst, arith, All, IsTrue, Some, None, IsSome, ◌⊎◌, inl, inr}
+use Rattle.std.proofs.Common.{◌≡◌, ℕ, zero, suc, ◌↔◌, ◌^◌, ◌<◌, List, [], ◌∷◌, true, false, refl, sym, ◌∙◌, ap, subst, arith, All, IsTrue, Some, None, IsSome, ◌⊎◌, inl, inr}
 use Rattle.std.specs.Prelude.{◌||◌}
 use Rattle.std.specs.List.{AllByRecursion}
 use Rattle.std.specs.List.Sorted.{IsStrictlySortedBy}
@@ -8,6 +8,7 @@ use Rattle.std.specs.Cmp.{ranked}
 use Rattle.std.specs.declared.cmp.Ordering.{Ordering}
 use Rattle.std.specs.declared.cmp.Ordering.TheVariants.{Less, Equal, Greater}
 use Rattle.std.specs.BTreeMap.{is_at}
+use Rattle.std.proofs.lemmas.Bool.{or_right}
 use Rattle.bl_code.proofs.Basics.{nat_cmp_less, nat_cmp_equal}
 use Rattle.bl_site.specs.Disk.{Name, Folder}
 use Rattle.bl_names.specs.Names.{IsNumber}
@@ -46,12 +47,8 @@ pub each_in : (P : ℕ → Type 0) (keys : List ℕ) → ((n : ℕ) → IsTrue (
 each_in P [] h = tt
 each_in P (k ∷ keys) h = (
   h k (ap (λ b. b || is_in k keys) (itself k)),
-  each_in P keys (λ n t. h n (either_true (is_at (nat_cmp n) k) (is_in n keys) t)),
+  each_in P keys (λ n t. h n (or_right (is_at (nat_cmp n) k) (is_in n keys) t)),
 )
-  where
-    either_true : (a b : Bool) → b ≡ true → (a || b) ≡ true
-    either_true true b t = refl
-    either_true false b t = t
 
 pub both : (P Q : ℕ → Type 0) (keys : List ℕ) → AllByRecursion P keys → AllByRecursion Q keys → AllByRecursion (λ n. P n × Q n) keys
 both P Q [] p q = tt
