@@ -6,6 +6,7 @@ ghost use Rattle.std.specs.FinMap.{get};
 ghost use Rattle.bl_site.specs.Disk.{Name, folder_of};
 ghost use Rattle.bl_code.specs.Order.{bytes_le, bytes_lt};
 ghost use Rattle.bl_site.specs.Calls.{Appends, AppendsAny, Frays, KeepsDisk, LeavesOnly, Syncs};
+ghost use Rattle.bl_site.specs.Quiet.{TellsNothing};
 ghost use Rattle.bl_site.specs.Causes.{Rose, one_more};
 ghost use Rattle.bl_wal.specs.LogFile.{LogFile, log_name};
 ghost use Rattle.bl_wal.specs.Held.{Batches};
@@ -105,11 +106,9 @@ impl Store {
         ensures cuts { S.shows → S.certain site.old → (log : LogFile) (older own : Batches) (synced last : ℕ) → log.failed ≡ false → StandsOn log older own synced last (S.disk site.old)
             → LeavesOnly S.clock S.left_since site.old site.new (LeavesFirst older own synced (S.told site.old)) }
 
-        ensures told { S.shows → S.told site.new ≡ S.told site.old }
+        ensures tells_nothing { TellsNothing S.Site site.old site.new }
         ensures causes { IfErr result IsOpening }
         ensures disk { IsErrOf result StoreErr.Disk → Rose (S.disk_faults site.old) (S.disk_faults site.new) }
-        ensures later { S.disk_faults site.old ≤ S.disk_faults site.new }
-        ensures tell_faults { S.tell_faults site.new ≡ S.tell_faults site.old }
     {
         names_one();
         batches_are_once();
@@ -171,11 +170,9 @@ impl Store {
         ensures cuts { S.shows → S.certain site.old → (older own : Batches) (synced : ℕ) → Carries self.old older own synced (S.disk site.old)
             → LeavesOnly S.clock S.left_since site.old site.new (LeavesFirst older (own ++ next_batch self.old batch.now ∷ []) synced (S.told site.old)) }
 
-        ensures told { S.shows → S.told site.new ≡ S.told site.old }
+        ensures tells_nothing { TellsNothing S.Site site.old site.new }
         ensures causes { IfErr result IsWriting }
         ensures disk { IsErrOf result StoreErr.Disk → Rose (S.disk_faults site.old) (S.disk_faults site.new) }
-        ensures later { S.disk_faults site.old ≤ S.disk_faults site.new }
-        ensures tell_faults { S.tell_faults site.new ≡ S.tell_faults site.old }
     {
         cuts_stand();
         if self.broken {
@@ -239,11 +236,9 @@ impl Store {
 
         ensures broken { (result ≡ Err StoreErr.Broken) ↔ (self.old.broken ≡ true) }
         ensures refused { IfErr result (λ e. IsUntouched e → (self.new ≡ self.old) × (site.new ≡ site.old)) }
-        ensures told { S.shows → S.told site.new ≡ S.told site.old }
+        ensures tells_nothing { TellsNothing S.Site site.old site.new }
         ensures causes { IfErr result IsEnding }
         ensures disk { IsErrOf result StoreErr.Disk → Rose (S.disk_faults site.old) (S.disk_faults site.new) }
-        ensures later { S.disk_faults site.old ≤ S.disk_faults site.new }
-        ensures tell_faults { S.tell_faults site.new ≡ S.tell_faults site.old }
     {
         cuts_stand();
         if self.broken {

@@ -18,7 +18,7 @@ use Rattle.bl_store.proofs.OtherLemmas.{others_same, others_then}
 use Rattle.bl_shell.proofs.obey.do_reopen.Goals as goal
 
 pub returns-in_err-store-clause-front : goal.returns-in_err-store-clause-front
-returns-in_err-store-clause-front g c = λ shown. each_err c.from_residual.result _ (λ e silent. tells_nothing ok_line _ _ (c.open_site.ensures.told shown))
+returns-in_err-store-clause-front g c = λ shown. each_err c.from_residual.result _ (λ e silent. tells_nothing ok_line _ _ (c.open_site.ensures.tells_nothing.told shown))
 
 pub returns-in_err-store-clause-corrupt : goal.returns-in_err-store-clause-corrupt
 returns-in_err-store-clause-corrupt g c = λ shown name place is.
@@ -30,13 +30,13 @@ returns-in_err-store-clause-corrupt g c = λ shown name place is.
 pub returns-in_err-tell-clause-front : goal.returns-in_err-tell-clause-front
 returns-in_err-tell-clause-front g c = λ shown.
     let P : List ℕ → Type 0 = λ t. TellsFront ok_line t (g.S.Site.told c.tell.new.self) in
-    each_err c.from_residual-in_err-tell.result _ (λ e silent. subst P (c.open_site.ensures.told shown)
+    each_err c.from_residual-in_err-tell.result _ (λ e silent. subst P (c.open_site.ensures.tells_nothing.told shown)
     (tell_broke c.in_err-tell.field-0.0 _ _ _ ok_line _ _ refl c.in_err-tell.ensures.cause (c.in_err-tell.ensures.failed shown) (c.in_err-tell.ensures.memory shown)))
 
 pub returns-clause-ok : goal.returns-clause-ok
 returns-clause-ok g c = λ shown.
     reopened_line c.stores_stand.ensures c.batches_are_once.ensures c.args.store.now _ _ _ _ _ _ _ c.in_ok-store.ensures.usable (c.in_ok-store.ensures.opened shown)
-    (c.in_ok-tell.ensures.stays shown).same (c.open_site.ensures.told shown) (c.in_ok-tell.ensures.done shown) (c.requires.there shown)
+    (c.in_ok-tell.ensures.stays shown).same (c.open_site.ensures.tells_nothing.told shown) (c.in_ok-tell.ensures.done shown) (c.requires.there shown)
 
 pub returns-in_err-store-clause-cuts : goal.returns-in_err-store-clause-cuts
 returns-in_err-store-clause-cuts g c = λ shown certain batches least s.
@@ -54,7 +54,7 @@ returns-in_err-tell-clause-cuts g c = λ shown certain batches least s.
     replied g.S.Site.clock g.S.Site.left_since g.S.Site.disk g.S.Site.told g.S.Site.may_be c.cuts_stand.ensures (Go Reopen) c.args.store.now _ batches least _ _ mid _
     (widened g.S.Site.clock g.S.Site.left_since _ _ _ _ (λ cut l. cut_quiet (Go Reopen) c.args.store.now batches least _ cut l.told_is l.whole (leaves_first s.older s.own batches s.synced least _ cut s.all s.at_least l))
     (c.open_site.ensures.cuts shown certain c.args.store.now.log s.older s.own s.synced c.args.store.now.last s.whole s.carries.on))
-    (c.tell.ensures.time shown) (λ other. g.met.S.Site.only shown mid other (c.in_ok-store.ensures.certain shown)) refl (c.open_site.ensures.told shown) (least_within c.args.store.now batches least _ s)
+    (c.tell.ensures.time shown) (λ other. g.met.S.Site.only shown mid other (c.in_ok-store.ensures.certain shown)) refl (c.open_site.ensures.tells_nothing.told shown) (least_within c.args.store.now batches least _ s)
     (stays_reopened c.stores_stand.ensures c.batches_are_once.ensures c.args.store.now _ _ _ _ batches least c.in_ok-store.ensures.usable (c.in_ok-store.ensures.opened shown) refl s)
 
 pub returns-clause-cuts : goal.returns-clause-cuts
@@ -63,11 +63,11 @@ returns-clause-cuts g c = λ shown certain batches least s.
     replied g.S.Site.clock g.S.Site.left_since g.S.Site.disk g.S.Site.told g.S.Site.may_be c.cuts_stand.ensures (Go Reopen) c.args.store.now _ batches least _ _ mid _
     (widened g.S.Site.clock g.S.Site.left_since _ _ _ _ (λ cut l. cut_quiet (Go Reopen) c.args.store.now batches least _ cut l.told_is l.whole (leaves_first s.older s.own batches s.synced least _ cut s.all s.at_least l))
     (c.open_site.ensures.cuts shown certain c.args.store.now.log s.older s.own s.synced c.args.store.now.last s.whole s.carries.on))
-    (c.tell.ensures.time shown) (λ other. g.met.S.Site.only shown mid other (c.in_ok-store.ensures.certain shown)) refl (c.open_site.ensures.told shown) (least_within c.args.store.now batches least _ s)
+    (c.tell.ensures.time shown) (λ other. g.met.S.Site.only shown mid other (c.in_ok-store.ensures.certain shown)) refl (c.open_site.ensures.tells_nothing.told shown) (least_within c.args.store.now batches least _ s)
     (stays_reopened c.stores_stand.ensures c.batches_are_once.ensures c.args.store.now _ _ _ _ batches least c.in_ok-store.ensures.usable (c.in_ok-store.ensures.opened shown) refl s)
 
 pub returns-in_err-store-clause-room : goal.returns-in_err-store-clause-room
-returns-in_err-store-clause-room g c = λ shown. on_any_err c.from_residual.result _ (inl (c.open_site.ensures.told shown))
+returns-in_err-store-clause-room g c = λ shown. on_any_err c.from_residual.result _ (inl (c.open_site.ensures.tells_nothing.told shown))
 
 pub returns-in_err-tell-clause-room : goal.returns-in_err-tell-clause-room
 returns-in_err-tell-clause-room g c = λ shown.
@@ -93,7 +93,7 @@ returns-in_err-store-clause-obeyed g c = λ shown is.
 pub returns-in_err-tell-clause-obeyed : goal.returns-in_err-tell-clause-obeyed
 returns-in_err-tell-clause-obeyed g c = λ shown is.
     reopened_line c.stores_stand.ensures c.batches_are_once.ensures c.args.store.now _ _ _ _ _ _ _ c.in_ok-store.ensures.usable (c.in_ok-store.ensures.opened shown)
-    (c.tell.ensures.stays shown).same (c.open_site.ensures.told shown) (ap (λ t. t ++ ok_line) (sym (c.open_site.ensures.told shown))) (c.requires.there shown)
+    (c.tell.ensures.stays shown).same (c.open_site.ensures.tells_nothing.told shown) (ap (λ t. t ++ ok_line) (sym (c.open_site.ensures.tells_nothing.told shown))) (c.requires.there shown)
 
 pub returns-in_err-store-clause-full_stays : goal.returns-in_err-store-clause-full_stays
 returns-in_err-store-clause-full_stays g c = λ shown limit is.

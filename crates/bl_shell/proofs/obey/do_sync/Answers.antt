@@ -14,18 +14,18 @@ use Rattle.bl_store.proofs.OtherLemmas.{log_alone, others_same, others_then}
 use Rattle.bl_shell.proofs.obey.do_sync.Goals as goal
 
 pub returns-in_err-sync-clause-front : goal.returns-in_err-sync-clause-front
-returns-in_err-sync-clause-front g c = λ shown. each_err c.from_residual.result _ (λ e silent. tells_nothing ok_line _ _ (c.sync.ensures.told shown))
+returns-in_err-sync-clause-front g c = λ shown. each_err c.from_residual.result _ (λ e silent. tells_nothing ok_line _ _ (c.sync.ensures.tells_nothing.told shown))
 
 pub returns-in_err-tell-clause-front : goal.returns-in_err-tell-clause-front
 returns-in_err-tell-clause-front g c = λ shown.
     let P : List ℕ → Type 0 = λ t. TellsFront ok_line t (g.S.Site.told c.tell.new.self) in
-    each_err c.from_residual-in_err-tell.result _ (λ e silent. subst P (c.sync.ensures.told shown)
+    each_err c.from_residual-in_err-tell.result _ (λ e silent. subst P (c.sync.ensures.tells_nothing.told shown)
     (tell_broke c.in_err-tell.field-0.0 _ _ _ ok_line _ _ refl c.in_err-tell.ensures.cause (c.in_err-tell.ensures.failed shown) (c.in_err-tell.ensures.memory shown)))
 
 pub returns-clause-ok : goal.returns-clause-ok
 returns-clause-ok g c = λ shown.
     synced_line c.args.store.now c.sync.new.self _ _ _ _ _ _ c.in_ok-sync.ensures.same (c.in_ok-sync.ensures.synced shown) (c.in_ok-sync.ensures.carried shown)
-    (c.in_ok-tell.ensures.stays shown).same (c.sync.ensures.told shown) (c.in_ok-tell.ensures.done shown) (c.requires.there shown)
+    (c.in_ok-tell.ensures.stays shown).same (c.sync.ensures.tells_nothing.told shown) (c.in_ok-tell.ensures.done shown) (c.requires.there shown)
 
 pub returns-in_err-sync-clause-cuts : goal.returns-in_err-sync-clause-cuts
 returns-in_err-sync-clause-cuts g c = λ shown certain batches least s.
@@ -38,7 +38,7 @@ returns-in_err-tell-clause-cuts g c = λ shown certain batches least s.
     replied g.S.Site.clock g.S.Site.left_since g.S.Site.disk g.S.Site.told g.S.Site.may_be c.cuts_stand.ensures (Go Sync) c.args.store.now c.sync.new.self batches least _ _ mid _
     (widened g.S.Site.clock g.S.Site.left_since _ _ _ _ (λ cut l. cut_quiet (Go Sync) c.args.store.now batches least _ cut l.told_is l.whole (leaves_first s.older s.own batches s.synced least _ cut s.all s.at_least l))
     (c.sync.ensures.cuts shown certain s.older s.own s.synced s.carries))
-    (c.tell.ensures.time shown) (λ other. g.met.S.Site.only shown mid other (c.sync.ensures.certain shown certain)) refl (c.sync.ensures.told shown) (least_within c.args.store.now batches least _ s)
+    (c.tell.ensures.time shown) (λ other. g.met.S.Site.only shown mid other (c.sync.ensures.certain shown certain)) refl (c.sync.ensures.tells_nothing.told shown) (least_within c.args.store.now batches least _ s)
     (stays_synced c.args.store.now c.sync.new.self _ _ _ batches least c.in_ok-sync.ensures.same (c.in_ok-sync.ensures.carried shown) refl s)
 
 pub returns-clause-certain : goal.returns-clause-certain
@@ -50,7 +50,7 @@ returns-clause-cuts g c = λ shown certain batches least s.
     replied g.S.Site.clock g.S.Site.left_since g.S.Site.disk g.S.Site.told g.S.Site.may_be c.cuts_stand.ensures (Go Sync) c.args.store.now c.sync.new.self batches least _ _ mid _
     (widened g.S.Site.clock g.S.Site.left_since _ _ _ _ (λ cut l. cut_quiet (Go Sync) c.args.store.now batches least _ cut l.told_is l.whole (leaves_first s.older s.own batches s.synced least _ cut s.all s.at_least l))
     (c.sync.ensures.cuts shown certain s.older s.own s.synced s.carries))
-    (c.tell.ensures.time shown) (λ other. g.met.S.Site.only shown mid other (c.sync.ensures.certain shown certain)) refl (c.sync.ensures.told shown) (least_within c.args.store.now batches least _ s)
+    (c.tell.ensures.time shown) (λ other. g.met.S.Site.only shown mid other (c.sync.ensures.certain shown certain)) refl (c.sync.ensures.tells_nothing.told shown) (least_within c.args.store.now batches least _ s)
     (stays_synced c.args.store.now c.sync.new.self _ _ _ batches least c.in_ok-sync.ensures.same (c.in_ok-sync.ensures.carried shown) refl s)
 
 pub returns-in_err-sync-clause-others : goal.returns-in_err-sync-clause-others
@@ -72,4 +72,4 @@ returns-in_err-sync-clause-obeyed g c = λ shown is.
 pub returns-in_err-tell-clause-obeyed : goal.returns-in_err-tell-clause-obeyed
 returns-in_err-tell-clause-obeyed g c = λ shown is.
     synced_line c.args.store.now c.sync.new.self _ _ _ _ _ _ c.in_ok-sync.ensures.same (c.in_ok-sync.ensures.synced shown) (c.in_ok-sync.ensures.carried shown)
-    (c.tell.ensures.stays shown).same (c.sync.ensures.told shown) (ap (λ t. t ++ ok_line) (sym (c.sync.ensures.told shown))) (c.requires.there shown)
+    (c.tell.ensures.stays shown).same (c.sync.ensures.tells_nothing.told shown) (ap (λ t. t ++ ok_line) (sym (c.sync.ensures.tells_nothing.told shown))) (c.requires.there shown)

@@ -21,7 +21,7 @@ use Rattle.bl_store.proofs.OtherLemmas.{log_alone, others_same, others_then}
 use Rattle.bl_shell.proofs.obey.do_write.Goals as goal
 
 pub returns-in_err-write-clause-front : goal.returns-in_err-write-clause-front
-returns-in_err-write-clause-front g c = λ shown. each_err c.from_residual.result _ (λ e silent. tells_nothing ok_line _ _ (c.write.ensures.told shown))
+returns-in_err-write-clause-front g c = λ shown. each_err c.from_residual.result _ (λ e silent. tells_nothing ok_line _ _ (c.write.ensures.tells_nothing.told shown))
 
 pub returns-in_err-write-clause-cuts : goal.returns-in_err-write-clause-cuts
 returns-in_err-write-clause-cuts g c = λ shown certain order w batches least s.
@@ -40,7 +40,7 @@ returns-in_err-write-clause-full_cuts g c = λ shown certain limit is batches le
 pub returns-in_err-tell-clause-front : goal.returns-in_err-tell-clause-front
 returns-in_err-tell-clause-front g c = λ shown.
     let P : List ℕ → Type 0 = λ t. TellsFront ok_line t (g.S.Site.told c.tell.new.self) in
-    each_err c.from_residual-in_err-tell.result _ (λ e silent. subst P (c.write.ensures.told shown)
+    each_err c.from_residual-in_err-tell.result _ (λ e silent. subst P (c.write.ensures.tells_nothing.told shown)
     (tell_broke c.in_err-tell.field-0.0 _ _ _ ok_line _ _ refl c.in_err-tell.ensures.cause (c.in_err-tell.ensures.failed shown) (c.in_err-tell.ensures.memory shown)))
 
 pub returns-in_err-tell-clause-cuts : goal.returns-in_err-tell-clause-cuts
@@ -50,14 +50,14 @@ returns-in_err-tell-clause-cuts g c = λ shown certain order w batches least s.
     let W : List Write → Type 0 = λ ws. IsServable c.write.new.self (batches ++ numbered (c.args.store.now.last + 1) ws) (cond (syncs order) (length batches) least) disk in
     replied g.S.Site.clock g.S.Site.left_since g.S.Site.disk g.S.Site.told g.S.Site.may_be c.cuts_stand.ensures order c.args.store.now c.write.new.self batches least _ _ mid _
     (widened g.S.Site.clock g.S.Site.left_since _ _ _ _ (λ cut l. cut_writing order c.args.batch.now c.args.store.now batches least _ _ cut w s l) (c.write.ensures.cuts shown certain s.older s.own s.synced s.carries))
-    (c.tell.ensures.time shown) (λ other. g.met.S.Site.only shown mid other (c.write.ensures.certain shown certain)) (sym (w.tells c.args.store.now.now)) (c.write.ensures.told shown)
+    (c.tell.ensures.time shown) (λ other. g.met.S.Site.only shown mid other (c.write.ensures.certain shown certain)) (sym (w.tells c.args.store.now.now)) (c.write.ensures.tells_nothing.told shown)
     (least_within c.args.store.now batches least _ s)
     (subst W (sym w.writes) (stays_wrote order c.args.batch.now c.args.store.now c.write.new.self _ disk disk batches least w c.in_ok-write.ensures.written (c.in_ok-write.ensures.carried shown) refl s))
 
 pub returns-clause-ok : goal.returns-clause-ok
 returns-clause-ok g c = λ shown order w.
     wrote_line order c.args.batch.now c.args.store.now c.write.new.self _ _ _ _ _ _ w c.in_ok-write.ensures.written (c.in_ok-write.ensures.appended shown) (c.in_ok-write.ensures.carried shown)
-    (c.in_ok-tell.ensures.stays shown).same (c.write.ensures.told shown) (c.in_ok-tell.ensures.done shown) (c.requires.there shown)
+    (c.in_ok-tell.ensures.stays shown).same (c.write.ensures.tells_nothing.told shown) (c.in_ok-tell.ensures.done shown) (c.requires.there shown)
 
 pub returns-clause-certain : goal.returns-clause-certain
 returns-clause-certain g c = λ shown certain. (c.tell.ensures.stays shown).certain_stays (c.write.ensures.certain shown certain)
@@ -69,12 +69,12 @@ returns-clause-cuts g c = λ shown certain order w batches least s.
     let W : List Write → Type 0 = λ ws. IsServable c.write.new.self (batches ++ numbered (c.args.store.now.last + 1) ws) (cond (syncs order) (length batches) least) disk in
     replied g.S.Site.clock g.S.Site.left_since g.S.Site.disk g.S.Site.told g.S.Site.may_be c.cuts_stand.ensures order c.args.store.now c.write.new.self batches least _ _ mid _
     (widened g.S.Site.clock g.S.Site.left_since _ _ _ _ (λ cut l. cut_writing order c.args.batch.now c.args.store.now batches least _ _ cut w s l) (c.write.ensures.cuts shown certain s.older s.own s.synced s.carries))
-    (c.tell.ensures.time shown) (λ other. g.met.S.Site.only shown mid other (c.write.ensures.certain shown certain)) (sym (w.tells c.args.store.now.now)) (c.write.ensures.told shown)
+    (c.tell.ensures.time shown) (λ other. g.met.S.Site.only shown mid other (c.write.ensures.certain shown certain)) (sym (w.tells c.args.store.now.now)) (c.write.ensures.tells_nothing.told shown)
     (least_within c.args.store.now batches least _ s)
     (subst W (sym w.writes) (stays_wrote order c.args.batch.now c.args.store.now c.write.new.self _ disk disk batches least w c.in_ok-write.ensures.written (c.in_ok-write.ensures.carried shown) refl s))
 
 pub returns-in_err-write-clause-room : goal.returns-in_err-write-clause-room
-returns-in_err-write-clause-room g c = λ shown. on_any_err c.from_residual.result _ (inl (c.write.ensures.told shown))
+returns-in_err-write-clause-room g c = λ shown. on_any_err c.from_residual.result _ (inl (c.write.ensures.tells_nothing.told shown))
 
 pub returns-in_err-tell-clause-room : goal.returns-in_err-tell-clause-room
 returns-in_err-tell-clause-room g c = λ shown. on_any_err c.from_residual-in_err-tell.result _ (inr (λ order w.
@@ -100,7 +100,7 @@ returns-in_err-write-clause-obeyed g c = λ shown is.
 pub returns-in_err-tell-clause-obeyed : goal.returns-in_err-tell-clause-obeyed
 returns-in_err-tell-clause-obeyed g c = λ shown is order w.
     wrote_line order c.args.batch.now c.args.store.now c.write.new.self _ _ _ _ _ _ w c.in_ok-write.ensures.written (c.in_ok-write.ensures.appended shown) (c.in_ok-write.ensures.carried shown)
-    (c.tell.ensures.stays shown).same (c.write.ensures.told shown) (ap (λ t. t ++ ok_line) (sym (c.write.ensures.told shown))) (c.requires.there shown)
+    (c.tell.ensures.stays shown).same (c.write.ensures.tells_nothing.told shown) (ap (λ t. t ++ ok_line) (sym (c.write.ensures.tells_nothing.told shown))) (c.requires.there shown)
 
 pub returns-in_err-write-clause-full_stays : goal.returns-in_err-write-clause-full_stays
 returns-in_err-write-clause-full_stays g c = λ shown limit is.

@@ -35,7 +35,7 @@ sync-requires g c = record {
 
 pub returns-in_err-sync-clause-front : goal.returns-in_err-sync-clause-front
 returns-in_err-sync-clause-front g c = λ shown. each_err c.from_residual-in_err-sync.result _ (λ e silent began folder told script start begins carried.
-    all_begun began folder script told _ _ _ _ _ begins (c.sync.ensures.told shown) (c.in_ok-end_script.ensures.ok shown began folder told script start carried))
+    all_begun began folder script told _ _ _ _ _ begins (c.sync.ensures.tells_nothing.told shown) (c.in_ok-end_script.ensures.ok shown began folder told script start carried))
 
 pub returns-in_err-sync-clause-cuts : goal.returns-in_err-sync-clause-cuts
 returns-in_err-sync-clause-cuts g c = λ shown began folder told script start carried.
@@ -53,7 +53,7 @@ returns-in_err-sync-clause-others g c = λ shown.
 pub returns-clause-ok : goal.returns-clause-ok
 returns-clause-ok g c = λ shown began folder told script start begins carried.
     let P : List ℕ → Type 0 = λ t. HasRun folder (folder_of (g.S.Site.disk c.sync.new.site)) script told t in
-    subst P (sym (c.sync.ensures.told shown))
+    subst P (sym (c.sync.ensures.tells_nothing.told shown))
     (has_run c.stores_stand.ensures c.batches_make_the_map.ensures began folder script told _ _ _ _ _ begins (c.in_ok-sync.ensures.reads shown) (c.in_ok-end_script.ensures.ok shown began folder told script start carried))
 
 pub returns-clause-cuts : goal.returns-clause-cuts

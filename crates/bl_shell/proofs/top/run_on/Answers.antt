@@ -23,7 +23,7 @@ returns-in_err-store-clause-full g c = λ shown known limit is.
     record {
       replies = [];
       full = inl (record { greatest = f.1; batches = f.2.0; last = f.2.1.0; stands = f.2.1.1; same = c.in_err-store.ensures.same shown (subst IsUntouched (sym e) tt); none_told = refl; limit_is = f.0 });
-      told_is = c.in_err-store.ensures.told shown ∙ sym (append-nil (g.S.Site.told c.args.site.now));
+      told_is = c.in_err-store.ensures.tells_nothing.told shown ∙ sym (append-nil (g.S.Site.told c.args.site.now));
       cuts = widened g.S.Site.clock g.S.Site.left_since c.args.site.now c.open_site.new.site _ _ (λ cut b. inl b) (c.open_site.ensures.before shown);
     }
 
@@ -31,7 +31,7 @@ pub returns-in_err-store-clause-corrupt : goal.returns-in_err-store-clause-corru
 returns-in_err-store-clause-corrupt g c = λ shown name place is.
     let p = err_from_is_err_and c.from_residual-in_err-store.result c.from_residual-in_err-store.ensures.1 in
     let e : c.in_err-store.field-0.0 ≡ store.Corrupt name place = stop_corrupt c.in_err-store.field-0.0 name place (cc (is, p.1, p.2)) in
-    (c.in_err-store.ensures.corrupt shown name place (ap Err e), c.in_err-store.ensures.told shown, c.in_err-store.ensures.same shown (subst IsUntouched (sym e) tt))
+    (c.in_err-store.ensures.corrupt shown name place (ap Err e), c.in_err-store.ensures.tells_nothing.told shown, c.in_err-store.ensures.same shown (subst IsUntouched (sym e) tt))
 
 pub returns-in_err-store-clause-damaged : goal.returns-in_err-store-clause-damaged
 returns-in_err-store-clause-damaged g c =
@@ -55,7 +55,7 @@ returns-clause-done g c = λ shown known.
     let folder = folder_of (g.S.Site.disk c.args.site.now) in
     let disk = g.S.Site.disk c.open_site.new.site in
     let P : List ℕ → Type 0 = λ t. HasRun folder (folder_of (g.S.Site.disk c.serve.new.site)) (g.R.Source.left c.args.script.now) t (g.S.Site.told c.serve.new.site) in
-    on_ok_weaker c.serve.result (λ ok. subst P (c.in_ok-store.ensures.told shown)
+    on_ok_weaker c.serve.result (λ ok. subst P (c.in_ok-store.ensures.tells_nothing.told shown)
     (ok (began_of folder c.in_ok-store.store disk o) folder (begins_open folder c.in_ok-store.store disk o c.batches_make_the_map.ensures) (starts_open folder c.in_ok-store.store disk o c.in_ok-store.ensures.usable)))
     (c.serve.ensures.ok shown known)
 
@@ -67,7 +67,7 @@ returns-clause-taken g c = λ shown known.
     IfErr-weaker c.serve.result _ _ (λ e taken reading.
     let t = taken reading (began_of folder c.in_ok-store.store disk o) folder (begins_open folder c.in_ok-store.store disk o c.batches_make_the_map.ensures) (starts_open folder c.in_ok-store.store disk o c.in_ok-store.ensures.usable) in
     let P : List ℕ → Type 0 = λ told. HasTaken folder (folder_of (g.S.Site.disk c.serve.new.site)) t.0 told (g.S.Site.told c.serve.new.site) in
-    (t.0, t.1, t.2, subst P (c.in_ok-store.ensures.told shown) t.3))
+    (t.0, t.1, t.2, subst P (c.in_ok-store.ensures.tells_nothing.told shown) t.3))
     (c.serve.ensures.taken shown known)
 
 pub returns-clause-front : goal.returns-clause-front
@@ -76,7 +76,7 @@ returns-clause-front g c = λ shown known.
     let folder = folder_of (g.S.Site.disk c.args.site.now) in
     let disk = g.S.Site.disk c.open_site.new.site in
     let P : List ℕ → Type 0 = λ told. HasBegun folder (g.R.Source.left c.args.script.now) told (g.S.Site.told c.serve.new.site) in
-    IfErr-weaker c.serve.result _ _ (λ e front silent. inr (subst P (c.in_ok-store.ensures.told shown)
+    IfErr-weaker c.serve.result _ _ (λ e front silent. inr (subst P (c.in_ok-store.ensures.tells_nothing.told shown)
     (front silent (began_of folder c.in_ok-store.store disk o) folder (begins_open folder c.in_ok-store.store disk o c.batches_make_the_map.ensures) (starts_open folder c.in_ok-store.store disk o c.in_ok-store.ensures.usable))))
     (c.serve.ensures.front shown known)
 
@@ -87,7 +87,7 @@ returns-clause-full g c = λ shown known limit is.
     let disk = g.S.Site.disk c.open_site.new.site in
     opened_stops g.S.Site.clock g.S.Site.left_since g.S.Site.told g.S.Site.may_be c.args.site.now c.open_site.new.site c.serve.new.site folder _ (g.R.Source.left c.args.script.now) limit (c.open_site.ensures.before shown)
     (c.serve.ensures.full shown known limit is (began_of folder c.in_ok-store.store disk o) folder (begins_open folder c.in_ok-store.store disk o c.batches_make_the_map.ensures) (starts_open folder c.in_ok-store.store disk o c.in_ok-store.ensures.usable))
-    (c.in_ok-store.ensures.told shown)
+    (c.in_ok-store.ensures.tells_nothing.told shown)
 
 pub returns-clause-kept : goal.returns-clause-kept
 returns-clause-kept g c = λ shown known.
@@ -104,7 +104,7 @@ returns-clause-cuts g c = λ shown known.
     let disk = g.S.Site.disk c.open_site.new.site in
     let began = began_of folder c.in_ok-store.store disk o in
     opened_then g.S.Site.clock g.S.Site.left_since g.S.Site.told g.S.Site.may_be c.args.site.now c.open_site.new.site c.serve.new.site folder _ began (begins_open folder c.in_ok-store.store disk o c.batches_make_the_map.ensures) (c.open_site.ensures.before shown)
-    (c.serve.ensures.cuts shown known began folder (starts_open folder c.in_ok-store.store disk o c.in_ok-store.ensures.usable)) (c.in_ok-store.ensures.told shown)
+    (c.serve.ensures.cuts shown known began folder (starts_open folder c.in_ok-store.store disk o c.in_ok-store.ensures.usable)) (c.in_ok-store.ensures.tells_nothing.told shown)
 
 pub returns-in_err-store-clause-cuts : goal.returns-in_err-store-clause-cuts
 returns-in_err-store-clause-cuts g c = λ shown known. widened g.S.Site.clock g.S.Site.left_since c.args.site.now c.open_site.new.site _ _ (λ cut b. inl b) (c.open_site.ensures.before shown)
@@ -133,7 +133,7 @@ from_opening g c shown known =
     let began = began_of folder c.in_ok-store.store disk o in
     opened_past g.S.Site.clock g.S.Site.left_since g.S.Site.told g.S.Site.may_be c.args.site.now c.open_site.new.site c.serve.new.site folder _ began (begins_open folder c.in_ok-store.store disk o c.batches_make_the_map.ensures)
     (c.open_site.ensures.before shown).later
-    (c.serve.ensures.cuts shown known began folder (starts_open folder c.in_ok-store.store disk o c.in_ok-store.ensures.usable)) (c.in_ok-store.ensures.told shown)
+    (c.serve.ensures.cuts shown known began folder (starts_open folder c.in_ok-store.store disk o c.in_ok-store.ensures.usable)) (c.in_ok-store.ensures.tells_nothing.told shown)
 
 pub returns-clause-past : goal.returns-clause-past
 returns-clause-past g c = λ shown known. inr (from_opening g c shown known)
@@ -161,7 +161,7 @@ returns-in_err-store-clause-made g c = λ shown known next sure.
     let new = c.open_site.new.site in
     let is = c.in_err-store.ensures.made shown next in
     opened_now site.clock site.left_since site.told site.may_be c.cuts_stand.ensures c.batches_make_the_map.ensures site.disk c.args.site.now new (folder_of (site.disk c.args.site.now)) _ is
-    (c.open_site.ensures.before shown).later (c.in_err-store.ensures.told shown)
+    (c.open_site.ensures.before shown).later (c.in_err-store.ensures.tells_nothing.told shown)
     (λ cut left. cut_of_only (site.may_be new) (site.disk new) (site.told new) cut (λ other. g.met.S.Site.only shown new other sure) (g.met.S.Site.only_now shown new cut left))
 
 pub returns-in_err-store-clause-whole : goal.returns-in_err-store-clause-whole
@@ -177,7 +177,7 @@ returns-clause-damaged g c = λ shown name place damaged.
     absurd (c.damaged_do_not_stand.ensures folder name place o.batches c.in_ok-store.store.last damaged (stands_open folder c.in_ok-store.store (g.S.Site.disk c.open_site.new.site) o))
 
 pub returns-clause-later : goal.returns-clause-later
-returns-clause-later g c = omega (arith, c.serve.ensures.later, c.in_ok-store.ensures.tell_faults)
+returns-clause-later g c = omega (arith, c.serve.ensures.later, c.in_ok-store.ensures.tells_nothing.tell_faults)
 
 pub returns-clause-others : goal.returns-clause-others
 returns-clause-others g c = λ shown. others_then _ _ _ (c.open_site.ensures.others shown) (c.serve.ensures.others shown)
@@ -203,7 +203,7 @@ returns-clause-behind g c = λ shown known sure.
     let began = began_of folder c.in_ok-store.store disk o in
     opened_behind site.clock site.left_since site.told site.may_be c.cuts_stand.ensures c.batches_make_the_map.ensures c.args.site.now c.open_site.new.site c.serve.new.site folder _ began
     (begins_open folder c.in_ok-store.store disk o c.batches_make_the_map.ensures) (c.open_site.ensures.behind shown sure)
-    (c.serve.ensures.cuts shown known began folder (starts_open folder c.in_ok-store.store disk o c.in_ok-store.ensures.usable)) (c.in_ok-store.ensures.told shown)
+    (c.serve.ensures.cuts shown known began folder (starts_open folder c.in_ok-store.store disk o c.in_ok-store.ensures.usable)) (c.in_ok-store.ensures.tells_nothing.told shown)
 
 pub returns-in_err-store-clause-faltered : goal.returns-in_err-store-clause-faltered
 returns-in_err-store-clause-faltered g c = λ shown known is.
@@ -216,5 +216,5 @@ returns-clause-faltered g c = λ shown known is.
     let folder = folder_of (g.S.Site.disk c.args.site.now) in
     let disk = g.S.Site.disk c.open_site.new.site in
     let P : List ℕ → Type 0 = λ told. HasFaltered folder (folder_of (g.S.Site.disk c.serve.new.site)) (g.R.Source.left c.args.script.now) told (g.S.Site.told c.serve.new.site) in
-    subst P (c.in_ok-store.ensures.told shown)
+    subst P (c.in_ok-store.ensures.tells_nothing.told shown)
     (c.serve.ensures.faltered shown known is (began_of folder c.in_ok-store.store disk o) folder (begins_open folder c.in_ok-store.store disk o c.batches_make_the_map.ensures) (starts_open folder c.in_ok-store.store disk o c.in_ok-store.ensures.usable))
