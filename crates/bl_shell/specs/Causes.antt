@@ -1,5 +1,7 @@
 -- How a failed call ends a run.
-use Rattle.std.specs.Prelude.{◌≡◌, ◌⊎◌, ℕ, ◌+◌, ◌-◌, ◌^◌, ◌≤◌, min, List, ◌++◌}
+use Rattle.std.specs.Prelude.{◌≡◌, ◌⊎◌, ℕ, ◌+◌, ◌-◌, ◌^◌, ◌≤◌, min, List, ◌++◌, Result, IfErr, IsErrOf}
+use Rattle.bl_site.specs.Causes.{Rose}
+use Rattle.bl_site.specs.declared.site.Site.{Ghosts}
 use Rattle.bl_site.specs.declared.site.SiteErr.{SiteErr}
 use Rattle.bl_site.specs.declared.site.SiteErr.TheVariants as site
 use Rattle.bl_store.specs.declared.error.StoreErr.{StoreErr}
@@ -54,6 +56,14 @@ IsNotOfScript stop.OutOfMemory = Unit {0}
 IsNotOfScript stop.Long = ⊥
 IsNotOfScript (stop.Corrupt name place) = Unit {0}
 IsNotOfScript (stop.Full number) = Unit {0}
+
+-- Why an order stops: not for what the script brings; `Disk` comes only where the count of the disk's failures rose, and `Tell` only
+-- where that of the output's did. Neither count falls.
+pub record HasStopCauses {S T : Type 0} (g : Ghosts S) (result : Result T Stop) (old new : S) : Type 0 where
+  pub causes : IfErr result IsNotOfScript
+  pub disk : IsErrOf result stop.Disk → Rose (g.disk_faults old) (g.disk_faults new)
+  pub tell : IsErrOf result stop.Tell → Rose (g.tell_faults old) (g.tell_faults new)
+  pub later : (g.disk_faults old ≤ g.disk_faults new) × (g.tell_faults old ≤ g.tell_faults new)
 
 -- more bytes were taken than the limit, or the count stands where it cannot rise
 abbrev pub TookOver : ℕ → ℕ → ℕ → Type 0

@@ -14,7 +14,7 @@ ghost use Rattle.bl_store.specs.Pairs.{pairs_between};
 ghost use Rattle.bl_store.specs.Stored.{KeepsOthers};
 ghost use Rattle.bl_shell.specs.Machine.{writes_of, reply_of, reply};
 ghost use Rattle.bl_shell.specs.Carried.{IsServable, TellsFront, Obeyed, Passes, HasRoom, IsWrite, IsTold, CutIn, CutTelling};
-ghost use Rattle.bl_shell.specs.Causes.{IsNotOfScript, IsSilent};
+ghost use Rattle.bl_shell.specs.Causes.{IsSilent, HasStopCauses};
 
 use crate::batch::{batch_of, batch_of_del, batch_of_put};
 use crate::scan::tell_pairs;
@@ -42,16 +42,13 @@ fn do_write<S: Site>(
     ensures full { S.shows → (limit : ℕ) → result ≡ Err (Stop.Full limit) → (limit ≡ store.old.last) × (2 ^ 56 ≤ limit + length batch.now) × (S.told site.new ≡ S.told site.old) }
     ensures full_stays { S.shows → (limit : ℕ) → result ≡ Err (Stop.Full limit) → folder_of (S.disk site.new) ≡ folder_of (S.disk site.old) }
     ensures corrupt { (name : Name) (place : ℕ) → result ≡ Err (Stop.Corrupt name place) → ⊥ }
-    ensures disk { IsErrOf result Stop.Disk → Rose (S.disk_faults site.old) (S.disk_faults site.new) }
-    ensures tell { IsErrOf result Stop.Tell → Rose (S.tell_faults site.old) (S.tell_faults site.new) }
+    ensures causes { HasStopCauses S.Site result site.old site.new }
     ensures others { S.shows → KeepsOthers (S.disk site.old) (S.disk site.new) }
-    ensures causes { IfErr result IsNotOfScript }
     ensures certain { S.shows → OnOk result (S.certain site.old → S.certain site.new) }
     ensures cuts { S.shows → S.certain site.old → (order : Parsed) → IsWrite order batch.now → (batches : Batches) (least : ℕ) → IsServable store.old batches least (S.disk site.old)
         → LeavesOnly S.clock S.left_since site.old site.new (CutIn order store.old batches least (S.told site.old)) }
     ensures full_cuts { S.shows → S.certain site.old → (limit : ℕ) → result ≡ Err (Stop.Full limit) → (batches : Batches) (least : ℕ) → IsServable store.old batches least (S.disk site.old)
         → LeavesOnly S.clock S.left_since site.old site.new (CutIn Parsed.Nothing store.old batches least (S.told site.old)) }
-    ensures later { (S.disk_faults site.old ≤ S.disk_faults site.new) × (S.tell_faults site.old ≤ S.tell_faults site.new) }
 {
     cuts_stand();
     store.write(alloc, site, batch)?;
@@ -86,16 +83,13 @@ fn do_sync<S: Site>(store: &mut Store, site: &mut S) -> Result<(), Stop>
     ensures full { S.shows → (limit : ℕ) → result ≡ Err (Stop.Full limit) → Passes (Parsed.Go Command.Sync) store.old.last store.old.log.number limit × (S.told site.new ≡ S.told site.old) }
     ensures full_stays { S.shows → (limit : ℕ) → result ≡ Err (Stop.Full limit) → folder_of (S.disk site.new) ≡ folder_of (S.disk site.old) }
     ensures corrupt { S.shows → (name : Name) (place : ℕ) → result ≡ Err (Stop.Corrupt name place) → ⊥ }
-    ensures disk { IsErrOf result Stop.Disk → Rose (S.disk_faults site.old) (S.disk_faults site.new) }
-    ensures tell { IsErrOf result Stop.Tell → Rose (S.tell_faults site.old) (S.tell_faults site.new) }
+    ensures causes { HasStopCauses S.Site result site.old site.new }
     ensures others { S.shows → KeepsOthers (S.disk site.old) (S.disk site.new) }
-    ensures causes { IfErr result IsNotOfScript }
     ensures certain { S.shows → OnOk result (S.certain site.old → S.certain site.new) }
     ensures cuts { S.shows → S.certain site.old → (batches : Batches) (least : ℕ) → IsServable store.old batches least (S.disk site.old)
         → LeavesOnly S.clock S.left_since site.old site.new (CutIn (Parsed.Go Command.Sync) store.old batches least (S.told site.old)) }
     ensures full_cuts { S.shows → S.certain site.old → (limit : ℕ) → result ≡ Err (Stop.Full limit) → (batches : Batches) (least : ℕ) → IsServable store.old batches least (S.disk site.old)
         → LeavesOnly S.clock S.left_since site.old site.new (CutIn Parsed.Nothing store.old batches least (S.told site.old)) }
-    ensures later { (S.disk_faults site.old ≤ S.disk_faults site.new) × (S.tell_faults site.old ≤ S.tell_faults site.new) }
 {
     cuts_stand();
     store.sync(site)?;
@@ -115,16 +109,13 @@ fn do_reopen<S: Site>(store: &mut Store, alloc: Global, site: &mut S) -> Result<
     ensures full { S.shows → (limit : ℕ) → result ≡ Err (Stop.Full limit) → Passes (Parsed.Go Command.Reopen) store.old.last store.old.log.number limit × (S.told site.new ≡ S.told site.old) }
     ensures full_stays { S.shows → (limit : ℕ) → result ≡ Err (Stop.Full limit) → folder_of (S.disk site.new) ≡ folder_of (S.disk site.old) }
     ensures corrupt { S.shows → (name : Name) (place : ℕ) → result ≡ Err (Stop.Corrupt name place) → ⊥ }
-    ensures disk { IsErrOf result Stop.Disk → Rose (S.disk_faults site.old) (S.disk_faults site.new) }
-    ensures tell { IsErrOf result Stop.Tell → Rose (S.tell_faults site.old) (S.tell_faults site.new) }
+    ensures causes { HasStopCauses S.Site result site.old site.new }
     ensures others { S.shows → KeepsOthers (S.disk site.old) (S.disk site.new) }
-    ensures causes { IfErr result IsNotOfScript }
     ensures certain { S.shows → OnOk result (S.certain site.old → S.certain site.new) }
     ensures cuts { S.shows → S.certain site.old → (batches : Batches) (least : ℕ) → IsServable store.old batches least (S.disk site.old)
         → LeavesOnly S.clock S.left_since site.old site.new (CutIn (Parsed.Go Command.Reopen) store.old batches least (S.told site.old)) }
     ensures full_cuts { S.shows → S.certain site.old → (limit : ℕ) → result ≡ Err (Stop.Full limit) → (batches : Batches) (least : ℕ) → IsServable store.old batches least (S.disk site.old)
         → LeavesOnly S.clock S.left_since site.old site.new (CutIn Parsed.Nothing store.old batches least (S.told site.old)) }
-    ensures later { (S.disk_faults site.old ≤ S.disk_faults site.new) × (S.tell_faults site.old ≤ S.tell_faults site.new) }
 {
     cuts_stand();
     stores_stand();
@@ -154,16 +145,13 @@ fn do_command<S: Site>(
     ensures full { S.shows → (limit : ℕ) → result ≡ Err (Stop.Full limit) → Passes (Parsed.Go command) store.old.last store.old.log.number limit × (S.told site.new ≡ S.told site.old) }
     ensures full_stays { S.shows → (limit : ℕ) → result ≡ Err (Stop.Full limit) → folder_of (S.disk site.new) ≡ folder_of (S.disk site.old) }
     ensures corrupt { S.shows → (name : Name) (place : ℕ) → result ≡ Err (Stop.Corrupt name place) → ⊥ }
-    ensures disk { IsErrOf result Stop.Disk → Rose (S.disk_faults site.old) (S.disk_faults site.new) }
-    ensures tell { IsErrOf result Stop.Tell → Rose (S.tell_faults site.old) (S.tell_faults site.new) }
+    ensures causes { HasStopCauses S.Site result site.old site.new }
     ensures others { S.shows → KeepsOthers (S.disk site.old) (S.disk site.new) }
-    ensures causes { IfErr result IsNotOfScript }
     ensures certain { S.shows → OnOk result (S.certain site.old → S.certain site.new) }
     ensures cuts { S.shows → S.certain site.old → (batches : Batches) (least : ℕ) → IsServable store.old batches least (S.disk site.old)
         → LeavesOnly S.clock S.left_since site.old site.new (CutIn (Parsed.Go command) store.old batches least (S.told site.old)) }
     ensures full_cuts { S.shows → S.certain site.old → (limit : ℕ) → result ≡ Err (Stop.Full limit) → (batches : Batches) (least : ℕ) → IsServable store.old batches least (S.disk site.old)
         → LeavesOnly S.clock S.left_since site.old site.new (CutIn Parsed.Nothing store.old batches least (S.told site.old)) }
-    ensures later { (S.disk_faults site.old ≤ S.disk_faults site.new) × (S.tell_faults site.old ≤ S.tell_faults site.new) }
 {
     cuts_stand();
     match command {
@@ -208,16 +196,13 @@ pub(crate) fn obey<S: Site>(
     ensures full { S.shows → (limit : ℕ) → result ≡ Err (Stop.Full limit) → Passes order store.old.last store.old.log.number limit × (S.told site.new ≡ S.told site.old) }
     ensures full_stays { S.shows → (limit : ℕ) → result ≡ Err (Stop.Full limit) → folder_of (S.disk site.new) ≡ folder_of (S.disk site.old) }
     ensures corrupt { S.shows → (name : Name) (place : ℕ) → result ≡ Err (Stop.Corrupt name place) → ⊥ }
-    ensures disk { IsErrOf result Stop.Disk → Rose (S.disk_faults site.old) (S.disk_faults site.new) }
-    ensures tell { IsErrOf result Stop.Tell → Rose (S.tell_faults site.old) (S.tell_faults site.new) }
+    ensures causes { HasStopCauses S.Site result site.old site.new }
     ensures others { S.shows → KeepsOthers (S.disk site.old) (S.disk site.new) }
-    ensures causes { IfErr result IsNotOfScript }
     ensures certain { S.shows → OnOk result (S.certain site.old → S.certain site.new) }
     ensures cuts { S.shows → S.certain site.old → (batches : Batches) (least : ℕ) → IsServable store.old batches least (S.disk site.old)
         → LeavesOnly S.clock S.left_since site.old site.new (CutIn order store.old batches least (S.told site.old)) }
     ensures full_cuts { S.shows → S.certain site.old → (limit : ℕ) → result ≡ Err (Stop.Full limit) → (batches : Batches) (least : ℕ) → IsServable store.old batches least (S.disk site.old)
         → LeavesOnly S.clock S.left_since site.old site.new (CutIn Parsed.Nothing store.old batches least (S.told site.old)) }
-    ensures later { (S.disk_faults site.old ≤ S.disk_faults site.new) × (S.tell_faults site.old ≤ S.tell_faults site.new) }
 {
     cuts_stand();
     match order {
