@@ -1,7 +1,7 @@
 //! Logs whose reading ends before their bytes do.
-ghost use Rattle.std.specs.Prelude.{◌≡◌, ◌≢◌, IfOk, MatchOption};
+ghost use Rattle.std.specs.Prelude.{◌≡◌, ◌≢◌, IfOk, MatchOption, map, string_bytes};
 ghost use Rattle.bl_site.specs.Disk.{folder_of};
-ghost use Rattle.bl_main.specs.Ends.{EndsAt, Tells};
+ghost use Rattle.bl_main.specs.Ends.{EndsAt, Tells, TellsEach};
 
 use bl_log::EndCause;
 use bl_names::{FileName, parse_name};
@@ -78,7 +78,8 @@ fn end_of<S: Site>(
     site: &mut S,
     name: &str,
 ) -> Result<Option<(u64, EndCause)>, LookErr>
-    ensures { S.shows → IfOk result (λ end. MatchOption end (folder_of (S.disk site.old) name.now ≡ None) (λ it. EndsAt (folder_of (S.disk site.old) name.now) it.0 it.1)) }
+    ensures ends { S.shows → IfOk result (λ end. MatchOption end (folder_of (S.disk site.old) name.now ≡ None) (λ it. EndsAt (folder_of (S.disk site.old) name.now) it.0 it.1)) }
+    ensures stays { S.shows → S.disk site.new ≡ S.disk site.old }
 {
     let mut reader = RecordReader::open(alloc, String::from_str(alloc, name)?)?;
     'records: for _record in 0..u64::MAX {
@@ -93,7 +94,8 @@ fn end_of<S: Site>(
 
 // What is to be said of this log, if anything.
 fn early_end<S: Site>(alloc: Global, site: &mut S, name: &str) -> Result<Option<EarlyEnd>, LookErr>
-    ensures { S.shows → IfOk result (λ end. Tells name.now (folder_of (S.disk site.old) name.now) end) }
+    ensures tells { S.shows → IfOk result (λ end. Tells name.now (folder_of (S.disk site.old) name.now) end) }
+    ensures stays { S.shows → S.disk site.new ≡ S.disk site.old }
 {
     let Some((place, cause)) = end_of(alloc, site, name)? else {
         return Ok(None);
@@ -126,14 +128,16 @@ pub fn list_logs<S: Site>(alloc: Global, site: &mut S) -> Result<Logs, LookErr> 
     Ok(logs)
 }
 
-/// Those of these logs whose reading ends before their bytes do.
+/// Those of these logs whose reading ends before their bytes do, in order of number.
 ///
 /// Errors: `LookErr`.
 pub fn early_ends<S: Site>(
     alloc: Global,
     site: &mut S,
     logs: &Logs,
-) -> Result<Vec<EarlyEnd>, LookErr> {
+) -> Result<Vec<EarlyEnd>, LookErr>
+    ensures { S.shows → IfOk result (λ found. TellsEach (folder_of (S.disk site.old)) (map (λ log. string_bytes log.1) logs.now.entries) found.items) }
+{
     let mut found = Vec::new(alloc);
     for (_, name) in logs.iter() {
         if let Some(end) = early_end(alloc, site, name.as_str())? {

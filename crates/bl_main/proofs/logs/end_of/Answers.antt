@@ -9,8 +9,8 @@ records-init g c = λ shown. record {
   found = ([], c.in_ok-reader.ensures.begins _);
 }
 
-pub returns-in-End : goal.returns-in-End
-returns-in-End g c = λ shown.
+pub returns-in-End-clause-ends : goal.returns-in-End-clause-ends
+returns-in-End-clause-ends g c = λ shown.
     let start = c.records.invariant shown in
     let same = same_file _ _ _ _ start.disk start.name in
     ends_at _ _ _ _ _ _ _ same c.in-End.is (c.in_ok-place.ensures.answers shown start.found.0 (found_there _ _ _ _ same start.found.1))
