@@ -1,0 +1,42 @@
+//! What holds of flushes: a caller that needs one of these calls it.
+
+ghost use Rattle.bl_folder.specs.FlushLaws.{FlushesApply, FlushesKeepFiles, FlushesKeepFronts, FlushesKeepMaps, FlushesStand, FlushesStandFirst, HeldAreWhole};
+
+use crate::laws::live_parts_have_a_version;
+use bl_code::blob_indexes_are_unique;
+use bl_entry::batches_join;
+use bl_index::index_is_read_again;
+
+/// What a folder holds is whole: its tables and blob files are those of its version, and its batches follow
+/// each other behind the last sequence of its version.
+pub fn held_are_whole()
+    ensures { HeldAreWhole }
+{
+    live_parts_have_a_version();
+    batches_join();
+}
+
+/// The edit of a flush is never refused, and leaves no file of the version out. What is held then is sound for
+/// the same map, and so it is with each front of the batches that remain; and each snapshot that the flush was
+/// given, and each sequence from the last flushed one on, sees the same values.
+pub fn flushes_keep_maps()
+    ensures apply { FlushesApply }
+    ensures files { FlushesKeepFiles }
+    ensures maps { FlushesKeepMaps }
+    ensures fronts { FlushesKeepFronts }
+{
+    index_is_read_again();
+    blob_indexes_are_unique();
+}
+
+/// A folder that has the files of a flush and its edit, and in its logs the batches that remain, stands for
+/// the same map, and with each front of these batches for the map that it stood for with the flushed ones too.
+pub fn flushed_folders_stand()
+    ensures stand { FlushesStand }
+    ensures first { FlushesStandFirst }
+{
+    index_is_read_again();
+    blob_indexes_are_unique();
+    live_parts_have_a_version();
+    batches_join();
+}
