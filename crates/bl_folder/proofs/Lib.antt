@@ -6,6 +6,7 @@ mod FlushedLemmas
 mod FrameLemmas
 mod FreshLemmas
 mod FrontLemmas
+mod InsertedLemmas
 mod LogLemmas
 mod MemoryLemmas
 mod MoveLemmas

@@ -1,10 +1,11 @@
 //! What holds of flushes: a caller that needs one of these calls it.
 
 ghost use Rattle.bl_folder.specs.FlushLaws.{FlushesApply, FlushesKeepFiles, FlushesKeepFronts, FlushesKeepMaps, FlushesStand, FlushesStandFirst, HeldAreWhole};
+ghost use Rattle.bl_folder.specs.Memories.{BatchesAreInBounds, HeldIsMemory};
 
 use crate::laws::live_parts_have_a_version;
 use bl_code::blob_indexes_are_unique;
-use bl_entry::batches_join;
+use bl_entry::{batches_are_read, batches_join, entries_are_revisions};
 use bl_index::index_is_read_again;
 
 /// What a folder holds is whole: its tables and blob files are those of its version, and its batches follow
@@ -39,4 +40,14 @@ pub fn flushed_folders_stand()
     blob_indexes_are_unique();
     live_parts_have_a_version();
     batches_join();
+}
+
+/// A memory table that holds batches in bounds is a memory of these: so it may be flushed. The batches of records
+/// are in bounds.
+pub fn memories_tell_what_was_inserted()
+    ensures bounds { BatchesAreInBounds }
+    ensures memory { HeldIsMemory }
+{
+    batches_are_read();
+    entries_are_revisions();
 }
