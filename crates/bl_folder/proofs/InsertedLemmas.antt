@@ -1,10 +1,9 @@
 -- A memory table that holds batches is a memory of them.
-use Rattle.std.proofs.Common.{◌≡◌, ℕ, suc, ◌+◌, ◌^◌, ◌≤◌, Bool, true, false, cond, List, [], ◌∷◌, length, refl, sym, ap, subst, arith, Option, Some, None}
+use Rattle.std.proofs.Common.{◌≡◌, ℕ, suc, ◌+◌, ◌^◌, ◌≤◌, Bool, true, false, cond, List, [], ◌∷◌, length, refl, sym, subst, arith, Option, Some, None}
 use Rattle.std.specs.Prelude.{◌==◌, map, Contains, IfSome, Result, Ok, Err}
 use Rattle.std.specs.List.{AllByRecursion}
 use Rattle.std.specs.List.Sorted.{IsPermutation}
 use Rattle.std.proofs.lemmas.List.Sorted.{Contains-permutation, IsPermutation-map, IsPermutation-sym}
-use Rattle.bl_code.specs.Numbers.{IsBytes}
 use Rattle.bl_entry.specs.declared.batch.Operation.{Operation}
 use Rattle.bl_entry.specs.declared.decode.BadBatch.{BadBatch}
 use Rattle.bl_entry.specs.declared.key.Entry.{Entry}
@@ -14,10 +13,9 @@ use Rattle.bl_entry.specs.Keys.{max_key, max_seq, max_value}
 use Rattle.bl_entry.specs.Latest.{revision_of}
 use Rattle.bl_entry.specs.Reading.{ReadsExactly, read_batch}
 use Rattle.bl_entry.specs.Records.{and_batch, batch_behind, batches_of}
-use Rattle.bl_entry.specs.Revisions.{Revision, revisions_of}
+use Rattle.bl_entry.specs.Revisions.{Revision}
 use Rattle.bl_entry.specs.Written.{EntriesAreRevisions, entries_from, entries_of, entry}
 use Rattle.bl_entry.proofs.ListLemmas.{all_append}
-use Rattle.bl_memtab.specs.Filled.{Holds}
 use Rattle.bl_folder.specs.Memories.{BatchesAreInBounds, HeldIsMemory, IsInBounds}
 use Rattle.bl_folder.proofs.AmongLemmas.{Among, all_at, all_by, from_among, to_among}
 use Rattle.bl_folder.proofs.OneLemmas.{pair_is}

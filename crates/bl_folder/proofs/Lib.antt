@@ -2,6 +2,7 @@ mod AmongLemmas
 mod ApplyLemmas
 mod Finding
 mod FlushLemmas
+mod FlushRows
 mod FlushedLemmas
 mod FrameLemmas
 mod FreshLemmas
