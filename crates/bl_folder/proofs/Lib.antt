@@ -14,6 +14,7 @@ mod MoveLemmas
 mod MutatedRows
 mod NoBytes
 mod OneLemmas
+mod QuietLemmas
 mod ReachLemmas
 mod RecordLemmas
 mod RichRows

@@ -2,6 +2,7 @@
 
 ghost use Rattle.bl_folder.specs.FlushLaws.{FlushesApply, FlushesKeepFiles, FlushesKeepFronts, FlushesKeepMaps, FlushesStand, FlushesStandFirst, HeldAreWhole};
 ghost use Rattle.bl_folder.specs.Memories.{BatchesAreInBounds, HeldIsMemory};
+ghost use Rattle.bl_folder.specs.Quiet.{OthersKeepNeeded, QuietCutsAreLike, QuietCutsKeepNeeded};
 
 use crate::laws::live_parts_have_a_version;
 use bl_code::blob_indexes_are_unique;
@@ -51,3 +52,11 @@ pub fn memories_tell_what_was_inserted()
     batches_are_read();
     entries_are_revisions();
 }
+
+/// A cut during a call that touches only files of some names, none of them needed, leaves what is needed as a cut of
+/// the disk before the call would; and the call leaves what is needed.
+pub fn quiet_cuts_keep_needed()
+    ensures cuts { QuietCutsAreLike }
+    ensures keep { QuietCutsKeepNeeded }
+    ensures needed { OthersKeepNeeded }
+{}
