@@ -17,6 +17,7 @@ mod OneLemmas
 mod QuietLemmas
 mod ReachLemmas
 mod RecordLemmas
+mod RestoreLemmas
 mod RichRows
 mod Rows
 mod SeenLemmas

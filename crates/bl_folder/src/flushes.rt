@@ -1,11 +1,13 @@
 //! What holds of flushes: a caller that needs one of these calls it.
 
 ghost use Rattle.bl_folder.specs.FlushLaws.{FlushesApply, FlushesKeepFiles, FlushesKeepFronts, FlushesKeepMaps, FlushesStand, FlushesStandFirst, HeldAreWhole};
+ghost use Rattle.bl_folder.specs.Installing.{FlushesRestore, OneEditMore};
 ghost use Rattle.bl_folder.specs.Memories.{BatchesAreInBounds, HeldIsMemory};
 ghost use Rattle.bl_folder.specs.Quiet.{OthersKeepNeeded, QuietCutsAreLike, QuietCutsKeepNeeded};
 
 use crate::laws::live_parts_have_a_version;
 use bl_code::blob_indexes_are_unique;
+use bl_edit::edits_are_read;
 use bl_entry::{batches_are_read, batches_join, entries_are_revisions};
 use bl_index::index_is_read_again;
 
@@ -29,6 +31,17 @@ pub fn flushes_keep_maps()
 {
     index_is_read_again();
     blob_indexes_are_unique();
+}
+
+/// With one record more that is an edit which is applied, a manifest restores the version behind it, with each
+/// field that the edit gives; so behind the edit of a flush it restores what is installed then.
+pub fn edits_are_restored()
+    ensures more { OneEditMore }
+    ensures flushes { FlushesRestore }
+{
+    index_is_read_again();
+    blob_indexes_are_unique();
+    edits_are_read();
 }
 
 /// A folder that has the files of a flush and its edit, and in its logs the batches that remain, stands for
