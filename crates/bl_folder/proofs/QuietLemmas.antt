@@ -7,9 +7,8 @@ use Rattle.std.specs.Str.{bytes_eq}
 use Rattle.std.proofs.lemmas.Bool.{false≢true, or_parts}
 use Rattle.std.proofs.lemmas.Slice.Eq.{bytes_eq-Decides}
 use Rattle.bl_site.specs.Disk.{Disk, File, Folder, IsLeft, Name, written_of}
-use Rattle.bl_names.specs.declared.name.FileName.{FileName}
 use Rattle.bl_names.specs.declared.name.FileName.TheVariants.{Log}
-use Rattle.bl_names.specs.Names.{name_of, IsNumber}
+use Rattle.bl_names.specs.Names.{name_of}
 use Rattle.bl_edit.specs.Bounds.{is_number}
 use Rattle.bl_out.specs.Quiet.{IsNoneOf}
 use Rattle.bl_folder.proofs.Finding.{from_test}
