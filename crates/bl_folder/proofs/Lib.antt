@@ -17,6 +17,7 @@ mod OneLemmas
 mod QuietLemmas
 mod ReachLemmas
 mod RecordLemmas
+mod RemainLemmas
 mod RestoreLemmas
 mod RichRows
 mod Rows

@@ -1,14 +1,18 @@
 -- Laws of flushes.
-use Rattle.std.specs.Prelude.{◌≡◌, ℕ, ◌+◌, ◌≤◌, List, length, drop, Ok}
+use Rattle.std.specs.Prelude.{◌≡◌, ℕ, ◌+◌, ◌≤◌, List, ◌++◌, length, drop, Some, Ok}
 use Rattle.std.specs.List.{AllByRecursion}
 use Rattle.bl_site.specs.Disk.{Folder}
+use Rattle.bl_log.specs.Log.{records}
 use Rattle.bl_names.specs.declared.name.FileName.TheVariants.{Table, Blob}
 use Rattle.bl_entry.specs.declared.key.Entry.{Entry}
+use Rattle.bl_entry.specs.Batches.{Batch}
+use Rattle.bl_entry.specs.Records.{batches_of}
 use Rattle.bl_entry.specs.Revisions.{Map, Revision}
 use Rattle.bl_build.specs.Versions.{apply}
 use Rattle.bl_out.specs.Files.{file}
 use Rattle.bl_out.specs.Flushes.{Flushed, HasFlush}
-use Rattle.bl_folder.specs.Logs.{HaveBatches}
+use Rattle.bl_folder.specs.Files.{log_bytes}
+use Rattle.bl_folder.specs.Logs.{HaveBatches, log_records}
 use Rattle.bl_folder.specs.Live.{IsLive}
 use Rattle.bl_folder.specs.Holding.{Holding, Holds}
 use Rattle.bl_folder.specs.Stands.{IsSound, StandsLive}
@@ -60,3 +64,15 @@ abbrev pub FlushesStandFirst : Type 0
 FlushesStandFirst = (old new : Folder) (manifest there : ℕ) (h : Holding) (found : List Revision) (m : Map) (count from log next more : ℕ) (snapshots : List ℕ) (memory : List Entry) (f : Flushed)
     → Holds old manifest h → count + more ≤ length h.batches → IsSound (cut_to (count + more) h) found m → IsFlushOf h count from snapshots memory f → HasInstalled old new there h count log next f
     → StandsFirst new more m
+
+-- ---- the logs
+
+-- Where the first so many logs have the first batches, those behind them have the batches that remain.
+abbrev pub LogsSplit : Type 0
+LogsSplit = (folder : Folder) (from skip before mid last : ℕ) (front back : List Batch) → HaveBatches folder from before (front ++ back) last
+    → batches_of (log_records folder from skip) before ≡ Some (front, mid) → HaveBatches folder (from + skip) mid back last
+
+-- Folders of whose logs the same is read have the same batches.
+abbrev pub LogsAlike : Type 0
+LogsAlike = (old new : Folder) (from before last : ℕ) (batches : List Batch) → ((n : ℕ) → from ≤ n → records (log_bytes new n) ≡ records (log_bytes old n))
+    → HaveBatches old from before batches last → HaveBatches new from before batches last

@@ -1,6 +1,6 @@
 //! What holds of flushes: a caller that needs one of these calls it.
 
-ghost use Rattle.bl_folder.specs.FlushLaws.{FlushesApply, FlushesKeepFiles, FlushesKeepFronts, FlushesKeepMaps, FlushesStand, FlushesStandFirst, HeldAreWhole};
+ghost use Rattle.bl_folder.specs.FlushLaws.{FlushesApply, FlushesKeepFiles, FlushesKeepFronts, FlushesKeepMaps, FlushesStand, FlushesStandFirst, HeldAreWhole, LogsAlike, LogsSplit};
 ghost use Rattle.bl_folder.specs.Installing.{FlushesRestore, OneEditMore};
 ghost use Rattle.bl_folder.specs.Memories.{BatchesAreInBounds, HeldIsMemory};
 ghost use Rattle.bl_folder.specs.Quiet.{OthersKeepNeeded, QuietCutsAreLike, QuietCutsKeepNeeded};
@@ -53,6 +53,15 @@ pub fn flushed_folders_stand()
     index_is_read_again();
     blob_indexes_are_unique();
     live_parts_have_a_version();
+    batches_join();
+}
+
+/// Where the first logs have the first batches, those behind them have the batches that remain; and folders of
+/// whose logs the same is read have the same batches.
+pub fn logs_have_the_batches_that_remain()
+    ensures split { LogsSplit }
+    ensures alike { LogsAlike }
+{
     batches_join();
 }
 
