@@ -6,18 +6,19 @@ use Rattle.std.specs.List.Sorted.{IsStrictlySortedBy}
 use Rattle.std.specs.Ordering.{nat_cmp}
 use Rattle.std.specs.declared.cmp.Ordering.TheVariants.{Less}
 use Rattle.std.proofs.lemmas.Bool.{eq-eqb, and_left, and_right, false≢true}
-use Rattle.std.proofs.lemmas.Grind.{flat_map-append}
-use Rattle.std.proofs.lemmas.List.{take-append-drop, map-append}
+use Rattle.std.proofs.lemmas.List.{map-append}
 use Rattle.std.proofs.lemmas.List.Sums.{sum_by-append, sum_by-cons, sum_by-take-drop}
 use Rattle.bl_code.specs.BlobIndex.{IsBlobIndex, blob_index}
 use Rattle.bl_entry.specs.declared.key.Entry.{Entry}
 use Rattle.bl_entry.specs.Batches.{Batch}
 use Rattle.bl_entry.specs.Entries.{IsProper}
-use Rattle.bl_entry.specs.Kept.{is_newest, kept}
-use Rattle.bl_entry.specs.Revisions.{Map, Revision, revisions_from, revisions_of, value_at}
+use Rattle.bl_entry.specs.Kept.{KeptTellTheSame, is_newest, kept}
+use Rattle.bl_entry.specs.Revisions.{Map, Revision, revisions_of, value_at}
 use Rattle.bl_code.proofs.Basics.{all_from, nat_cmp_less}
 use Rattle.bl_entry.proofs.ItemLemmas.{Went, all_of_map, some_is, went}
 use Rattle.bl_entry.proofs.ListLemmas.{all_append}
+use Rattle.bl_entry.proofs.OrderLemmas.{ascending_in_order}
+use Rattle.bl_folder.proofs.FrontLemmas.{revisions_split}
 use Rattle.bl_entry.specs.Items.{each_of}
 use Rattle.bl_entry.specs.Latest.{revision_of}
 use Rattle.bl_folder.proofs.AmongLemmas.{Among, Mapped, Split, all_at, all_by, all_left, all_right, all_unmapped, among_left, among_map, among_mapped, among_parts, among_right, distinct_cross, distinct_filter, distinct_join, distinct_left, distinct_one, distinct_right, each_join, each_split, from_among, to_among}
@@ -159,9 +160,6 @@ new_kept from tops (x ∷ xs) new =
     let totals : length x.records ≡ x.named.count = ap (λ (t : Totals). t.count) new.0.totals in
     let some : 1 ≤ length x.records = new.0.some in
     (not_spent (linked_to tops (new_blob x.named)) refl (omega arith), new_kept from tops xs new.1)
-
-revisions_split : (count : ℕ) (batches : List Batch) → revisions_of batches ≡ revisions_of (take count batches) ++ revisions_of (drop count batches)
-revisions_split count batches = ap revisions_of (sym (take-append-drop count batches)) ∙ flat_map-append (λ (b : Batch). revisions_from b.first b.operations) (take count batches) (drop count batches)
 
 add_nothing : (n : ℕ) → n + 0 ≡ n
 add_nothing n = omega arith
@@ -483,7 +481,7 @@ module _ (reads : IndexIsRead) (spells : IndexIsSpelled) (h : Holding) (count fr
 
   -- ---- what is found then
 
-  module _ (found : List Revision) (m : Map) (s : IsSound h found m) where
+  module _ (tell : KeptTellTheSame) (found : List Revision) (m : Map) (s : IsSound h found m) where
     tables_found : Went (each_of (revision_in (records_by h.blobs)) (table_entries h.tables)) (λ es. Some (es ++ revisions_of h.batches)) found
     tables_found = went (each_of (revision_in (records_by h.blobs)) (table_entries h.tables)) (λ es. Some (es ++ revisions_of h.batches)) found s.resolve
 
@@ -535,19 +533,10 @@ module _ (reads : IndexIsRead) (spells : IndexIsSpelled) (h : Holding) (count fr
         (revisions_more h.blobs news eb parts.back parts.backs)))
 
     moved : (q : ℕ) (key : List ℕ) → IsKeptAt snapshots (flushed_to count h) q → (r : Revision) → Among r rk → r.key ≡ key → r.seq ≤ q → ((x : Revision) → Among x rk → x.key ≡ key → x.seq ≤ q → x.seq ≤ r.seq) → Among r rt
-    moved q key at r there is le most = moved_from (among_mapped revision_of memory r (to_among (map revision_of memory) r ((o.memory_of.same r).1 (from_among rk r there))))
-      where
-        moved_from : Mapped revision_of memory r → Among r (map revision_of (kept snapshots false memory))
-        moved_from e =
-            let low : e.from.key.seq ≤ q = subst (λ (x : Revision). x.seq ≤ q) (sym e.is) le in
-            let user : e.from.key.user ≡ r.key = ap (λ (x : Revision). x.key) e.is in
-            let seq : e.from.key.seq ≡ r.seq = ap (λ (x : Revision). x.seq) e.is in
-            subst (λ (x : Revision). Among x (map revision_of (kept snapshots false memory))) e.is
-            (among_map revision_of (kept snapshots false memory) e.from
-            (greatest_is_kept snapshots (flushed_to count h) q at rk rk_distinct memory o.memory_of.plain
-            (λ x inside. (memory_there x inside, (all_at (λ (y : Entry). IsFresh y.key.seq) memory x memory_seqs inside).1))
-            e.from e.there low
-            (λ x a b c. let up : x.seq ≤ r.seq = most x a (b ∙ user ∙ is) c in omega arith)))
+    moved q key at r there is le most =
+        greatest_is_kept tell snapshots (flushed_to count h) q at rk rk_distinct memory (ascending_in_order memory o.memory_of.ascending)
+        (all_from (λ (e : Entry). IsFresh e.key.seq) (λ e. e.key.seq ≤ flushed_to count h) memory (λ e fresh. fresh.1) memory_seqs)
+        (λ x inside. to_among rk x ((o.memory_of.same x).0 (from_among (map revision_of memory) x inside))) key r (to_among (map revision_of memory) r ((o.memory_of.same r).1 (from_among rk r there))) is le most
 
     same_values : (q : ℕ) (key : List ℕ) → IsKeptAt snapshots (flushed_to count h) q → value_at found_now q key ≡ value_at found q key
     same_values q key at = value_now parts.front parts.back rk rr rt distinct part q key (moved q key at) ∙ ap (λ rs. value_at rs q key) found_is

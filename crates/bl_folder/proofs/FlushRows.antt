@@ -10,6 +10,7 @@ use Rattle.bl_entry.specs.declared.key.Kind.TheVariants.{Deletion, Value, BlobRe
 use Rattle.bl_entry.specs.declared.key.Entry.{Entry}
 use Rattle.bl_entry.specs.Batches.{Batch, deletion_of, put_of}
 use Rattle.bl_entry.specs.Entries.{IsProper}
+use Rattle.bl_entry.specs.Kept.{KeptTellTheSame}
 use Rattle.bl_entry.specs.Latest.{revision_of}
 use Rattle.bl_entry.specs.Revisions.{Map, Revision, revisions_from, revisions_of}
 use Rattle.bl_blob.specs.BlobFile.{placed}
@@ -133,6 +134,6 @@ listed : apply before.live.version (edit_for before 1 3 6 files) ≡ Ok (record 
 unfolding options apply
 listed = refl
 
-kept_maps : IndexIsRead → IndexIsSpelled → (found : List Revision) (m : Map) → IsSound before found m → KeepsMaps (1 ∷ []) 5 found (installed before 1 3 6 files) m
+kept_maps : IndexIsRead → IndexIsSpelled → KeptTellTheSame → (found : List Revision) (m : Map) → IsSound before found m → KeepsMaps (1 ∷ []) 5 found (installed before 1 3 6 files) m
 unfolding options
-kept_maps reads spells found m sound = keeps_maps reads spells before 1 4 3 6 (1 ∷ []) memory files whole flush_of found m sound
+kept_maps reads spells tell found m sound = keeps_maps reads spells before 1 4 3 6 (1 ∷ []) memory files whole flush_of tell found m sound

@@ -11,6 +11,7 @@ use Rattle.bl_names.specs.declared.name.FileName.TheVariants.{Table, Blob}
 use Rattle.bl_entry.specs.declared.decode.BadBatch.{BadBatch}
 use Rattle.bl_entry.specs.declared.key.Entry.{Entry}
 use Rattle.bl_entry.specs.Batches.{Batch}
+use Rattle.bl_entry.specs.Kept.{KeptTellTheSame}
 use Rattle.bl_entry.specs.Reading.{read_batch}
 use Rattle.bl_entry.specs.Records.{LastIsCounted, and_batch, batch_behind, batches_of}
 use Rattle.bl_blob.specs.BlobFile.{IsBlobFile}
@@ -81,8 +82,8 @@ held_are_whole version counted folder manifest h holds = record {
 pub flushes_apply : IndexIsRead → IndexIsSpelled → FlushesApply
 flushes_apply reads spells h count from log next snapshots memory f whole o = applies reads spells h count from log next snapshots memory f whole o
 
-pub flushes_keep_maps : IndexIsRead → IndexIsSpelled → FlushesKeepMaps
-flushes_keep_maps reads spells h found m count from log next snapshots memory f whole sound o = keeps_maps reads spells h count from log next snapshots memory f whole o found m sound
+pub flushes_keep_maps : IndexIsRead → IndexIsSpelled → KeptTellTheSame → FlushesKeepMaps
+flushes_keep_maps reads spells tell h found m count from log next snapshots memory f whole sound o = keeps_maps reads spells h count from log next snapshots memory f whole o tell found m sound
 
 pub flushes_keep_files : IndexIsRead → IndexIsSpelled → FlushesKeepFiles
 flushes_keep_files reads spells h count from log next snapshots memory f whole o =
@@ -143,11 +144,11 @@ cut_flush h count more from snapshots memory f o =
       flush = o.flush;
     }
 
-pub flushes_keep_fronts : IndexIsRead → IndexIsSpelled → FlushesKeepFronts
-flushes_keep_fronts reads spells h found m count from log next more snapshots memory f whole sound o =
+pub flushes_keep_fronts : IndexIsRead → IndexIsSpelled → KeptTellTheSame → FlushesKeepFronts
+flushes_keep_fronts reads spells tell h found m count from log next more snapshots memory f whole sound o =
     let flushed_same : flushed_to count (cut_to (count + more) h) ≡ flushed_to count h = ap (last_after h.live.standing.last_sequence) (take_take count more h.batches) in
     let k : KeepsMaps snapshots (flushed_to count (cut_to (count + more) h)) found (installed (cut_to (count + more) h) count log next f) m =
-    keeps_maps reads spells (cut_to (count + more) h) count from log next snapshots memory f (whole_cut h (count + more) whole) (cut_flush h count more from snapshots memory f o) found m sound in
+    keeps_maps reads spells (cut_to (count + more) h) count from log next snapshots memory f (whole_cut h (count + more) whole) (cut_flush h count more from snapshots memory f o) tell found m sound in
     subst (λ (n : ℕ). KeepsMaps snapshots n found (cut_to more (installed h count log next f)) m) flushed_same
     (subst (λ (g : Holding). KeepsMaps snapshots (flushed_to count (cut_to (count + more) h)) found g m) (cut_installed h count more log next f) k)
 
@@ -208,9 +209,9 @@ module _ (reads : IndexIsRead) (spells : IndexIsSpelled) (version : LiveIsVersio
         batches = i.batches;
       }
 
-pub flushes_stand : IndexIsRead → IndexIsSpelled → LiveIsVersion → LastIsCounted → FlushesStand
-flushes_stand reads spells version counted old new manifest there h found m count from log next snapshots memory f holds sound o i =
-    let k = keeps_maps reads spells h count from log next snapshots memory f (held_are_whole version counted old manifest h holds) o found m sound in
+pub flushes_stand : IndexIsRead → IndexIsSpelled → KeptTellTheSame → LiveIsVersion → LastIsCounted → FlushesStand
+flushes_stand reads spells tell version counted old new manifest there h found m count from log next snapshots memory f holds sound o i =
+    let k = keeps_maps reads spells h count from log next snapshots memory f (held_are_whole version counted old manifest h holds) o tell found m sound in
     record {
       manifest = there;
       holding = installed h count log next f;
@@ -219,9 +220,9 @@ flushes_stand reads spells version counted old new manifest there h found m coun
       sound = k.sound;
     }
 
-pub flushes_stand_first : IndexIsRead → IndexIsSpelled → LiveIsVersion → LastIsCounted → FlushesStandFirst
-flushes_stand_first reads spells version counted old new manifest there h found m count from log next more snapshots memory f holds long sound o i =
-    let k = flushes_keep_fronts reads spells h found m count from log next more snapshots memory f (held_are_whole version counted old manifest h holds) sound o in
+pub flushes_stand_first : IndexIsRead → IndexIsSpelled → KeptTellTheSame → LiveIsVersion → LastIsCounted → FlushesStandFirst
+flushes_stand_first reads spells tell version counted old new manifest there h found m count from log next more snapshots memory f holds long sound o i =
+    let k = flushes_keep_fronts reads spells tell h found m count from log next more snapshots memory f (held_are_whole version counted old manifest h holds) sound o in
     let rest : length (drop count h.batches) ≡ length h.batches - count = length-drop count h.batches in
     record {
       manifest = there;

@@ -1,13 +1,13 @@
 -- A memory of some batches, and what a flush keeps of it.
-use Rattle.std.proofs.Common.{◌≡◌, ℕ, suc, ◌+◌, ◌<◌, ◌≤◌, nat_lt, Bool, true, false, cond, List, [], ◌∷◌, length, refl, sym, ◌∙◌, ap, subst, arith, inl, inr, Option, Some, None}
-use Rattle.std.specs.Prelude.{◌==◌, ◌&&◌, not, map, sum_by, if◌then◌else◌}
+use Rattle.std.proofs.Common.{◌≡◌, ℕ, suc, ◌+◌, ◌<◌, ◌≤◌, nat_le, Bool, true, false, List, [], ◌∷◌, length, refl, sym, ◌∙◌, ap, arith, inl, inr, Option, Some, None}
+use Rattle.std.specs.Prelude.{◌==◌, ◌&&◌, map, sum_by, if◌then◌else◌}
 use Rattle.std.specs.List.{AllByRecursion, IsDistinct}
 use Rattle.std.specs.List.Sorted.{IsStrictlySortedBy}
 use Rattle.std.specs.Ordering.{is_lt, nat_cmp, ordering_then}
 use Rattle.std.specs.declared.cmp.Ordering.TheVariants.{Less, Equal}
 use Rattle.std.specs.Cmp.{tied_itself}
 use Rattle.std.specs.Cmp.Lexicographic.{nat_list_cmp_total}
-use Rattle.std.proofs.lemmas.Bool.{and_from, eqb-true, false≢true, false_from_ne_true, ltb-true, ltb-false, lt-ltb, le-ltb}
+use Rattle.std.proofs.lemmas.Bool.{and_from, eqb-true, le-leb, leb-true}
 use Rattle.std.proofs.lemmas.List.Sums.{sum_by-cons}
 use Rattle.bl_code.specs.Order.{bytes_cmp, same_bytes}
 use Rattle.bl_entry.specs.declared.batch.Operation.{Operation}
@@ -15,15 +15,16 @@ use Rattle.bl_entry.specs.declared.key.Kind.{Kind}
 use Rattle.bl_entry.specs.declared.key.Kind.TheVariants.{Deletion, Value, BlobRef}
 use Rattle.bl_entry.specs.declared.key.Entry.{Entry}
 use Rattle.bl_entry.specs.Batches.{Batch}
-use Rattle.bl_entry.specs.Entries.{IsAscending, is_deletion, stands_before}
+use Rattle.bl_entry.specs.Entries.{AreInOrder, EntriesUpTo, IsAscending, is_deletion}
 use Rattle.bl_entry.specs.Keys.{Key, key_cmp, key_number, kind_number}
-use Rattle.bl_entry.specs.Kept.{alike, is_newest, kept, stripe}
-use Rattle.bl_entry.specs.Revisions.{Revision, revisions_from, revisions_of}
+use Rattle.bl_entry.specs.Kept.{KeptTellTheSame, MayBeAsked, is_newest, kept}
+use Rattle.bl_entry.specs.Revisions.{Revision, revisions_from, revisions_of, seen}
 use Rattle.bl_code.proofs.Basics.{all_from}
 use Rattle.bl_entry.proofs.ListLemmas.{all_append}
+use Rattle.bl_entry.proofs.OrderLemmas.{nat_cmp_lt}
 use Rattle.bl_entry.specs.Latest.{revision_of}
-use Rattle.bl_folder.proofs.AmongLemmas.{Among, all_at, among_filter, none_passes, to_among, to_filter}
-use Rattle.bl_folder.proofs.SeenLemmas.{both_true, one_revision, same_key}
+use Rattle.bl_folder.proofs.AmongLemmas.{Among, among_filter, to_filter}
+use Rattle.bl_folder.proofs.SeenLemmas.{both_true, key_same, newest_is, newest_there, one_revision, same_key}
 use Rattle.bl_folder.proofs.WrittenLemmas.{IsPlain}
 use Rattle.bl_folder.specs.Flushes.{Follow, IsKeptAt}
 use Rattle.bl_folder.specs.Fronts.{last_after}
@@ -50,78 +51,13 @@ following before (b ∷ bs) f =
     (all_from (λ (r : Revision). (b.first ≤ r.seq) × (r.seq < b.first + length b.operations)) (λ r. (before < r.seq) × (r.seq ≤ last_after before (b ∷ bs))) (revisions_from b.first b.operations) (λ r (h, k). (omega arith, omega arith)) (from_bounds b.first b.operations))
     (all_from (λ (r : Revision). (before + length b.operations < r.seq) × (r.seq ≤ last_after (before + length b.operations) bs)) (λ r. (before < r.seq) × (r.seq ≤ last_after before (b ∷ bs))) (revisions_of bs) (λ r (h, k). (omega arith, omega arith)) (following (before + length b.operations) bs f.1))
 
--- ---- stripes
-
-module _ (s : ℕ) (a b : ℕ) where
-  test_le : a ≤ b → cond (nat_lt s a) 1 0 ≤ cond (nat_lt s b) 1 0
-  test_le le = by (nat_lt s a) (nat_lt s b) (λ t. lt-ltb s b (let lt : s < a = ltb-true s a t in omega arith))
-    where
-      by : (x y : Bool) → (x ≡ true → y ≡ true) → cond x 1 0 ≤ cond y 1 0
-      by true true h = omega arith
-      by true false h = absurd (false≢true (h refl))
-      by false true h = omega arith
-      by false false h = omega arith
-
-  test_lt : a ≤ s → s < b → cond (nat_lt s a) 1 0 < cond (nat_lt s b) 1 0
-  test_lt low high =
-      subst (λ t. cond t 1 0 < cond (nat_lt s b) 1 0) (sym (le-ltb s a low)) (subst (λ t. 0 < cond t 1 0) (sym (lt-ltb s b high)) (omega arith))
-
-stripe_le : (snapshots : List ℕ) (a b : ℕ) → a ≤ b → stripe snapshots a ≤ stripe snapshots b
-stripe_le [] a b le = omega arith
-stripe_le (s ∷ ss) a b le =
-    let one : cond (nat_lt s a) 1 0 ≤ cond (nat_lt s b) 1 0 = test_le s a b le in
-    let more : stripe ss a ≤ stripe ss b = stripe_le ss a b le in
-    let x : stripe (s ∷ ss) a ≡ cond (nat_lt s a) 1 0 + stripe ss a = sum_by-cons (λ t. cond (nat_lt t a) 1 0) s ss in
-    let y : stripe (s ∷ ss) b ≡ cond (nat_lt s b) 1 0 + stripe ss b = sum_by-cons (λ t. cond (nat_lt t b) 1 0) s ss in
-    omega arith
-
-stripe_lt : (snapshots : List ℕ) (s a b : ℕ) → Among s snapshots → a ≤ s → s < b → stripe snapshots a < stripe snapshots b
-stripe_lt [] s a b h low high = absurd h
-stripe_lt (t ∷ ts) s a b (inl is) low high =
-    let at : t ≡ s = is in
-    let one : cond (nat_lt t a) 1 0 < cond (nat_lt t b) 1 0 = test_lt t a b (omega arith) (omega arith) in
-    let more : stripe ts a ≤ stripe ts b = stripe_le ts a b (omega arith) in
-    let x : stripe (t ∷ ts) a ≡ cond (nat_lt t a) 1 0 + stripe ts a = sum_by-cons (λ u. cond (nat_lt u a) 1 0) t ts in
-    let y : stripe (t ∷ ts) b ≡ cond (nat_lt t b) 1 0 + stripe ts b = sum_by-cons (λ u. cond (nat_lt u b) 1 0) t ts in
-    omega arith
-stripe_lt (t ∷ ts) s a b (inr h) low high =
-    let one : cond (nat_lt t a) 1 0 ≤ cond (nat_lt t b) 1 0 = test_le t a b (omega arith) in
-    let more : stripe ts a < stripe ts b = stripe_lt ts s a b h low high in
-    let x : stripe (t ∷ ts) a ≡ cond (nat_lt t a) 1 0 + stripe ts a = sum_by-cons (λ u. cond (nat_lt u a) 1 0) t ts in
-    let y : stripe (t ∷ ts) b ≡ cond (nat_lt t b) 1 0 + stripe ts b = sum_by-cons (λ u. cond (nat_lt u b) 1 0) t ts in
-    omega arith
-
--- in one stripe with a sequence up to a snapshot are only such, and so it is behind the last sequence of all
-pub kept_seq : (snapshots : List ℕ) (last s a b : ℕ) → IsKeptAt snapshots last s → a ≤ s → b ≤ last → stripe snapshots b ≡ stripe snapshots a → b ≤ s
-kept_seq snapshots last s a b (inr le) low up same = omega arith
-kept_seq snapshots last s a b (inl there) low up same = by (nat_lt s b) refl
-  where
-    by : (t : Bool) → nat_lt s b ≡ t → b ≤ s
-    by false f = ltb-false s b f
-    by true t = let less : stripe snapshots a < stripe snapshots b = stripe_lt snapshots s a b (to_among snapshots s there) low (ltb-true s b t) in absurd (omega arith)
-
 -- ---- keys in order
-
-kind_small : (k : Kind) → kind_number k < 256
-kind_small Deletion = omega arith
-kind_small Value = omega arith
-kind_small BlobRef = omega arith
-
-pub nat_before : (a b : ℕ) → is_lt (nat_cmp a b) ≡ true → a < b
-nat_before a b h = by (nat_lt a b) refl
-  where
-    not_lt : nat_lt a b ≡ false → is_lt (nat_cmp a b) ≡ false
-    not_lt e = grind arith
-
-    by : (t : Bool) → nat_lt a b ≡ t → a < b
-    by true e = ltb-true a b e
-    by false e = absurd (false≢true (sym (not_lt e) ∙ h))
 
 -- of one user key the greater number stands before
 user_before : (x y : Key) → x.user ≡ y.user → is_lt (key_cmp x y) ≡ true → key_number y < key_number x
 user_before x y same lt =
     let users : bytes_cmp x.user y.user ≡ Equal = ap (λ u. bytes_cmp u y.user) same ∙ tied_itself nat_list_cmp_total y.user in
-    nat_before (key_number y) (key_number x) (sym (ap (λ o. is_lt (ordering_then o (nat_cmp (key_number y) (key_number x)))) users) ∙ lt)
+    nat_cmp_lt (key_number y) (key_number x) (sym (ap (λ o. is_lt (ordering_then o (nat_cmp (key_number y) (key_number x)))) users) ∙ lt)
 
 -- puts and deletions that write the same are of one kind
 one_kind : (k j : Kind) (v w : List ℕ) → IsPlainKind k → IsPlainKind j → ◌≡◌ {A = Option (List ℕ)} (if is_deletion k then None else Some v) (if is_deletion j then None else Some w) → k ≡ j
@@ -184,24 +120,29 @@ two_mapped (x ∷ es) h = (each es h.0, two_mapped es h.1)
 pub kept_is_part : (snapshots : List ℕ) (memory : List Entry) (e : Entry) → Among e (kept snapshots false memory) → Among e memory
 kept_is_part snapshots memory e h = (among_filter (λ x. is_newest snapshots memory x && true) memory e h).0
 
--- the greatest entry that is seen at a sequence which the flush keeps is kept
-module _ (snapshots : List ℕ) (last s : ℕ) (at : IsKeptAt snapshots last s) (rs : List Revision) (distinct : IsDistinct same_revision rs) (memory : List Entry)
-    (plain : AllByRecursion IsPlain memory) (there : (x : Entry) → Among x memory → Among (revision_of x) rs × (x.key.seq ≤ last)) where
-  pub greatest_is_kept : (e : Entry) → Among e memory → e.key.seq ≤ s → ((q : Revision) → Among q rs → q.key ≡ e.key.user → q.seq ≤ s → q.seq ≤ e.key.seq) → Among e (kept snapshots false memory)
-  greatest_is_kept e h low most =
-      to_filter (λ x. is_newest snapshots memory x && true) memory e h
-      (and_from (is_newest snapshots memory e) true (ap not (none_passes (λ x. alike snapshots x e && stands_before x e) memory none)) refl)
+-- the greatest revision that is seen at a sequence which the flush keeps is kept
+module _ (tell : KeptTellTheSame) (snapshots : List ℕ) (last s : ℕ) (at : IsKeptAt snapshots last s) (rs : List Revision) (distinct : IsDistinct same_revision rs) (memory : List Entry)
+    (order : AreInOrder memory) (low : EntriesUpTo last memory) (told : (r : Revision) → Among r (map revision_of memory) → Among r rs) where
+  asked : MayBeAsked snapshots s memory
+  asked = elim at [ inl there ↦ inl there | inr le ↦ inr (all_from (λ e. e.key.seq ≤ last) (λ e. e.key.seq ≤ s) memory (λ e up. omega arith) low) ]
+
+  abbrev is_seen : List ℕ → Revision → Bool
+  is_seen key r = same_bytes r.key key && nat_le r.seq s
+
+  pub greatest_is_kept : (key : List ℕ) (r : Revision) → Among r (map revision_of memory) → r.key ≡ key → r.seq ≤ s → ((q : Revision) → Among q rs → q.key ≡ key → q.seq ≤ s → q.seq ≤ r.seq)
+      → Among r (map revision_of (kept snapshots false memory))
+  greatest_is_kept key r there is le most =
+      let keeps : List Revision = map revision_of (kept snapshots false memory) in
+      (among_filter (is_seen key) keeps r
+      (newest_there (seen s key keeps) r
+      (tell snapshots memory s key order asked
+      ∙ newest_is (seen s key (map revision_of memory)) r
+      (to_filter (is_seen key) (map revision_of memory) r there (and_from (same_bytes r.key key) (nat_le r.seq s) (key_same r.key key is) (le-leb r.seq s le)))
+      (λ q h. let a = seen_parts key q h in most q a.0 a.1 a.2)
+      (λ q h e. let a = seen_parts key q h in one_revision rs distinct q r a.0 (told r there) (a.1 ∙ sym is) e)))).0
     where
-      none : (x : Entry) → Among x memory → (alike snapshots x e && stands_before x e) ≡ false
-      none x inside = false_from_ne_true (alike snapshots x e && stands_before x e) (λ t.
-          let both = both_true (alike snapshots x e) (stands_before x e) t in
-          let of_one = both_true (same_bytes x.key.user e.key.user) (stripe snapshots x.key.seq == stripe snapshots e.key.seq) both.0 in
-          let users : x.key.user ≡ e.key.user = same_key x.key.user e.key.user of_one.0 in
-          let stripes : stripe snapshots x.key.seq ≡ stripe snapshots e.key.seq = eqb-true (stripe snapshots x.key.seq) (stripe snapshots e.key.seq) of_one.1 in
-          let seen : x.key.seq ≤ s = kept_seq snapshots last s e.key.seq x.key.seq at low (there x inside).1 stripes in
-          let le : x.key.seq ≤ e.key.seq = most (revision_of x) (there x inside).0 users seen in
-          let number : key_number e.key < key_number x.key = user_before x.key e.key users both.1 in
-          let small_x : kind_number x.key.kind < 256 = kind_small x.key.kind in
-          let small_e : kind_number e.key.kind < 256 = kind_small e.key.kind in
-          let seqs : x.key.seq ≡ e.key.seq = omega arith in
-          not_before x e (all_at IsPlain memory x plain inside) (all_at IsPlain memory e plain h) (one_revision rs distinct (revision_of x) (revision_of e) (there x inside).0 (there e h).0 users seqs) both.1)
+      seen_parts : (k : List ℕ) (q : Revision) → Among q (seen s k (map revision_of memory)) → Among q rs × (q.key ≡ k) × (q.seq ≤ s)
+      seen_parts k q h =
+          let a = among_filter (is_seen k) (map revision_of memory) q h in
+          let t = both_true (same_bytes q.key k) (nat_le q.seq s) a.1 in
+          (told q a.0, same_key q.key k t.0, leb-true q.seq s t.1)

@@ -1,5 +1,5 @@
 -- The value of a key at a sequence goes by which revisions there are.
-use Rattle.std.proofs.Common.{◌≡◌, ℕ, ◌<◌, ◌≤◌, nat_lt, nat_le, Bool, true, false, cond, List, [], ◌∷◌, refl, sym, ◌∙◌, ap, arith, inl, inr, Some}
+use Rattle.std.proofs.Common.{◌≡◌, ℕ, ◌<◌, ◌≤◌, nat_lt, nat_le, Bool, true, false, cond, List, [], ◌∷◌, refl, sym, ◌∙◌, ap, subst, arith, inl, inr, Some}
 use Rattle.std.specs.Prelude.{◌&&◌, ◌==◌, option_and_then}
 use Rattle.std.specs.List.{AllByRecursion, IsDistinct}
 use Rattle.std.proofs.lemmas.Bool.{and_from, eq-eqb, eqb-true, false≢true, ltb-true, ltb-false}
@@ -8,6 +8,7 @@ use Rattle.std.proofs.lemmas.Slice.Eq.{bytes_eq-Decides}
 use Rattle.bl_code.specs.Order.{same_bytes}
 use Rattle.bl_entry.specs.Revisions.{Revision, later, newest, seen, value_at}
 use Rattle.bl_code.proofs.Basics.{all_from}
+use Rattle.bl_entry.proofs.ItemLemmas.{some_is}
 use Rattle.bl_folder.proofs.AmongLemmas.{Among, all_at, among_filter, to_filter}
 use Rattle.bl_out.specs.Values.{same_revision}
 
@@ -46,6 +47,18 @@ module _ (e d : Revision) (es : List Revision) (r : Revision) (g : IsGreatest (d
 pub greatest : (e : Revision) (es : List Revision) → (r : Revision) × IsGreatest (e ∷ es) r
 greatest e [] = (e, record { is = refl; there = inl refl; most = (omega arith, tt) })
 greatest e (d ∷ es) = let g = greatest d es in step e d es g.0 g.1 (nat_lt e.seq g.0.seq) refl
+
+pub newest_is : (zs : List Revision) (r : Revision) → Among r zs → ((q : Revision) → Among q zs → q.seq ≤ r.seq) → ((q : Revision) → Among q zs → q.seq ≡ r.seq → q ≡ r) → newest zs ≡ Some r
+newest_is [] r h most one = absurd h
+newest_is (z ∷ zs) r h most one =
+    let g = greatest z zs in
+    let up : r.seq ≤ g.0.seq = all_at (λ q. q.seq ≤ g.0.seq) (z ∷ zs) r g.1.most h in
+    let low : g.0.seq ≤ r.seq = most g.0 g.1.there in
+    g.1.is ∙ ap Some (one g.0 g.1.there (omega arith))
+
+pub newest_there : (zs : List Revision) (r : Revision) → newest zs ≡ Some r → Among r zs
+newest_there [] r e = absurd cc
+newest_there (z ∷ zs) r e = let g = greatest z zs in subst (λ (q : Revision). Among q (z ∷ zs)) (some_is (sym g.1.is ∙ e)) g.1.there
 
 -- ---- two lists of which the second has no other revisions, but the greatest one that is seen
 

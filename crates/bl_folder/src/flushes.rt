@@ -8,7 +8,7 @@ ghost use Rattle.bl_folder.specs.Quiet.{OthersKeepNeeded, QuietCutsAreLike, Quie
 use crate::laws::live_parts_have_a_version;
 use bl_code::blob_indexes_are_unique;
 use bl_edit::edits_are_read;
-use bl_entry::{batches_are_read, batches_join, entries_are_revisions};
+use bl_entry::{batches_are_read, batches_join, entries_are_revisions, kept_tell_the_same};
 use bl_index::index_is_read_again;
 
 /// What a folder holds is whole: its tables and blob files are those of its version, and its batches follow
@@ -31,6 +31,7 @@ pub fn flushes_keep_maps()
 {
     index_is_read_again();
     blob_indexes_are_unique();
+    kept_tell_the_same();
 }
 
 /// With one record more that is an edit which is applied, a manifest restores the version behind it, with each
@@ -52,6 +53,7 @@ pub fn flushed_folders_stand()
 {
     index_is_read_again();
     blob_indexes_are_unique();
+    kept_tell_the_same();
     live_parts_have_a_version();
     batches_join();
 }
