@@ -1,7 +1,19 @@
-//! What the table files and blob files of a folder hold, and how their entries refer to each other: the
-//! definitions under the files that a flush or a compaction makes.
+//! What a job writes: tables and blob files, with the numbers that it draws for them; and what the table files and
+//! blob files of a folder hold, and how their entries refer to each other.
 #![tactic(auto)]
 
+mod append;
+mod blob;
+mod error;
 mod laws;
+mod make;
+mod numbers;
+mod sealed;
+mod table;
+mod writer;
 
+pub use error::JobErr;
 pub use laws::{order_does_not_matter, values_are_read_at};
+pub use numbers::Numbers;
+pub use sealed::Sealed;
+pub use writer::Output;
