@@ -13,7 +13,10 @@ mod table;
 mod writer;
 
 pub use error::JobErr;
-pub use laws::{order_does_not_matter, values_are_read_at};
+pub use laws::{
+    order_does_not_matter, outputs_are_sealed_file_by_file, outputs_write_what_they_are_given,
+    values_are_read_at,
+};
 pub use numbers::Numbers;
 pub use sealed::Sealed;
 pub use writer::Output;
