@@ -1,2 +1,4 @@
 mod OrderLemmas
 mod ValueLemmas
+mod Adding
+mod Sealing
