@@ -21,12 +21,13 @@ use Rattle.bl_entry.proofs.OrderLemmas.{ascending_in_order}
 use Rattle.bl_folder.proofs.FrontLemmas.{revisions_split}
 use Rattle.bl_entry.specs.Items.{each_of}
 use Rattle.bl_entry.specs.Latest.{revision_of}
-use Rattle.bl_folder.proofs.AmongLemmas.{Among, Mapped, Split, all_at, all_by, all_left, all_right, all_unmapped, among_left, among_map, among_mapped, among_parts, among_right, distinct_cross, distinct_filter, distinct_join, distinct_left, distinct_one, distinct_right, each_join, each_split, from_among, to_among}
+use Rattle.bl_out.proofs.AmongLemmas.{Among, Mapped, Split, all_at, all_by, all_left, all_right, all_unmapped, among_left, among_map, among_mapped, among_parts, among_right, distinct_cross, distinct_filter, distinct_join, distinct_left, distinct_one, distinct_right, each_join, each_split, from_among, to_among}
 use Rattle.bl_folder.proofs.ApplyLemmas.{AreBelow, IsKept, Placing, all_last, all_links_stay, all_needed, new_links, no_clash, no_overlap, none_twice, not_spent, placing, plain_after, plain_applies}
 use Rattle.bl_folder.proofs.MemoryLemmas.{same_two, all_two, following, greatest_is_kept, kept_is_part, two_mapped}
 use Rattle.bl_folder.proofs.MoveLemmas.{all_flat, before, bytes_three, count_three, entries_join, greatest_under, named_there, now, of_one, once_now, references_three, references_two, revisions_more, under_greatest, value_now}
-use Rattle.bl_folder.proofs.RecordLemmas.{InFile, all_apart, at_file, by_file, bytes_in, count_in, in_file, least_is, new_number, none_of, not_eqb, number, other_file, one_file, references_found, references_in, references_more, references_to, sizes, within}
-use Rattle.bl_folder.proofs.WrittenLemmas.{IndexIsRead, IsPlain, IsStored, Resolves, written_placed, written_proper, written_references, written_revisions, written_seqs}
+use Rattle.bl_folder.proofs.RecordLemmas.{all_apart, at_file, by_file, bytes_in, count_in, least_is, none_of, not_eqb, number, other_file, one_file, references_found, references_in, references_more, references_to, sizes}
+use Rattle.bl_out.proofs.StoredLemmas.{IndexIsSpelled, InFile, in_file, new_number, number_is, stored_are}
+use Rattle.bl_out.proofs.WrittenLemmas.{IndexIsRead, IsPlain, IsStored, Resolves, written_placed, written_proper, written_references, written_revisions, written_seqs}
 use Rattle.bl_folder.specs.Entries.{entries_of, records_by}
 use Rattle.bl_folder.specs.Flushes.{Follow, IsFlushOf, IsKeptAt, IsWhole, KeepsMaps, blob_metas, edit_for, flushed_to, installed, linked_file, metas}
 use Rattle.bl_folder.specs.Fronts.{last_after}
@@ -47,10 +48,6 @@ use Rattle.bl_build.specs.declared.meta.BlobMeta.{BlobMeta}
 use Rattle.bl_build.specs.Listing.{Ascends, Listing, all_placed, blob_number, table_rank}
 use Rattle.bl_build.specs.Versions.{addition_numbers, after, apply, blob_numbers, clash, linked_to, new_blob, overlap, still_needed, table_numbers, with_blobs, with_links, with_tables}
 
--- the shortest spelling of a blob index is one
-abbrev pub IndexIsSpelled : Type 0
-IndexIsSpelled = (file offset size : ℕ) → file < 2 ^ 64 → offset < 2 ^ 64 → size < 2 ^ 64 → IsBlobIndex (blob_index file offset size) file offset size
-
 -- ---- numbers that ascend
 
 pub ascends_one : {A : Type 0} (key : A → ℕ) (xs : List A) → length xs ≤ 1 → Ascends key xs
@@ -65,9 +62,6 @@ ascends_map g key (x ∷ xs) h = (all_of_map g (λ y. key (g x) < key y) xs h.0,
 length_map : {A B : Type 0} (f : A → B) (xs : List A) → length (map f xs) ≡ length xs
 length_map f [] = refl
 length_map f (x ∷ xs) = ap suc (length_map f xs)
-
-number_is : (n : ℕ) → IsTrue (is_number n) → (1 ≤ n) × (n < 10 ^ 15)
-number_is n t = grind (arith, t)
 
 -- the numbers of new blob files ascend
 ascends_of : (bs : List NewBlob) → IsStrictlySortedBy nat_cmp (map (λ b. b.named.number) bs) → Ascends new_number bs
@@ -179,30 +173,6 @@ no_clash_below t u e = by (t.level == 0) refl
     by true z = ap (λ c. not c && (u.level == t.level) && overlap t u) z
     by false z =
         ap (λ c. not (t.level == 0) && c && overlap t u) (not_eqb u.level t.level (λ same. false≢true (sym z ∙ eq-eqb t.level 0 (sym same ∙ e)))) ∙ and_left _ (overlap t u) (and_right (not (t.level == 0)) false refl)
-
-stored_one : IndexIsRead → IndexIsSpelled → (from : ℕ) (bs : List NewBlob) → AllByRecursion (IsNewBlob from) bs → (s : Stored) → InFile bs s → IsStored s
-stored_one reads spells from bs news s i =
-    let b : NewBlob = i.file in
-    let q : BlobAt = i.at in
-    let new : IsNewBlob from b = all_at (IsNewBlob from) bs b news i.there in
-    let in_bounds : (1 ≤ new_number b) × (new_number b < 10 ^ 15) = number_is (new_number b) new.fits in
-    let ends : q.offset + length q.value ≤ 30 + sum_by size_of b.records = all_at (λ (r : BlobAt). r.offset + length r.value ≤ 30 + sum_by size_of b.records) (blobs_of b.records) q (within 30 b.records) i.inside in
-    let bytes : sum_by size_of b.records ≡ b.named.bytes = ap (λ (t : Totals). t.bytes) new.totals in
-    let size : 62 + b.named.bytes < 2 ^ 63 = new.size in
-    let low : new_number b < 10 ^ 15 = in_bounds.1 in
-    let file_fits : new_number b < 2 ^ 64 = omega arith in
-    let offset_fits : q.offset < 2 ^ 64 = omega arith in
-    let size_fits : length q.value < 2 ^ 64 = omega arith in
-    subst IsStored i.is (record {
-      reads = reads (record { file = new_number b; offset = q.offset; size = length q.value }) file_fits offset_fits size_fits;
-      spells = spells (new_number b) q.offset (length q.value) file_fits offset_fits size_fits;
-      some = in_bounds.0;
-      number = in_bounds.1;
-      size = refl;
-    })
-
-pub stored_are : IndexIsRead → IndexIsSpelled → (from : ℕ) (bs : List NewBlob) → AllByRecursion (IsNewBlob from) bs → AllByRecursion IsStored (stored bs)
-stored_are reads spells from bs news = all_by IsStored (stored bs) (λ s there. stored_one reads spells from bs news s (in_file bs s there))
 
 -- ---- the flush
 

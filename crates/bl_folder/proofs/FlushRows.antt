@@ -22,9 +22,10 @@ use Rattle.bl_out.specs.Written.{inline, large, nothing as no_more}
 use Rattle.bl_folder.specs.Flushes.{IsFlushOf, IsMemoryOf, IsWhole, KeepsMaps, edit_for, installed}
 use Rattle.bl_folder.specs.Holding.{Holding}
 use Rattle.bl_folder.specs.Stands.{IsSound}
-use Rattle.bl_folder.proofs.AmongLemmas.{Among, from_among, to_among}
-use Rattle.bl_folder.proofs.FlushLemmas.{IndexIsSpelled, keeps_maps}
-use Rattle.bl_folder.proofs.WrittenLemmas.{IndexIsRead}
+use Rattle.bl_out.proofs.AmongLemmas.{Among, from_among, to_among}
+use Rattle.bl_folder.proofs.FlushLemmas.{keeps_maps}
+use Rattle.bl_out.proofs.StoredLemmas.{IndexIsSpelled}
+use Rattle.bl_out.proofs.WrittenLemmas.{IndexIsRead}
 use Rattle.bl_folder.proofs.RichRows.{entry, key}
 use Rattle.bl_folder.proofs.Rows.{options}
 

@@ -24,12 +24,13 @@ use Rattle.bl_code.proofs.Basics.{all_from}
 use Rattle.bl_entry.proofs.ItemLemmas.{all_of_map, each_cons, some_is}
 use Rattle.bl_entry.proofs.ListLemmas.{all_append}
 use Rattle.bl_entry.specs.Items.{each_of}
-use Rattle.bl_folder.proofs.AmongLemmas.{all_unmapped, each_more}
+use Rattle.bl_out.proofs.AmongLemmas.{all_unmapped, each_more}
 use Rattle.bl_folder.proofs.ApplyLemmas.{map_all_placed}
-use Rattle.bl_folder.proofs.FlushLemmas.{IndexIsSpelled, all_now, applies, follow_take, keeps_maps, version_is}
+use Rattle.bl_folder.proofs.FlushLemmas.{all_now, applies, follow_take, keeps_maps, version_is}
+use Rattle.bl_out.proofs.StoredLemmas.{IndexIsSpelled}
 use Rattle.bl_folder.proofs.OneLemmas.{blob_of, blobs_are, pair_is}
 use Rattle.bl_folder.proofs.ReachLemmas.{table_of, tables_are}
-use Rattle.bl_folder.proofs.WrittenLemmas.{IndexIsRead}
+use Rattle.bl_out.proofs.WrittenLemmas.{IndexIsRead}
 use Rattle.bl_folder.specs.FlushLaws.{FlushesApply, FlushesKeepFiles, FlushesKeepFronts, FlushesKeepMaps, FlushesStand, FlushesStandFirst, HasInstalled, HeldAreWhole}
 use Rattle.bl_folder.specs.Flushes.{Follow, IsFlushOf, IsMemoryOf, IsWhole, KeepsMaps, blob_metas, flushed_to, installed, installed_edit, linked_file, metas}
 use Rattle.bl_folder.specs.Fronts.{cut_to, last_after}

@@ -17,9 +17,9 @@ use Rattle.bl_entry.specs.Revisions.{Revision}
 use Rattle.bl_entry.specs.Written.{EntriesAreRevisions, entries_from, entries_of, entry}
 use Rattle.bl_entry.proofs.ListLemmas.{all_append}
 use Rattle.bl_folder.specs.Memories.{BatchesAreInBounds, HeldIsMemory, IsInBounds}
-use Rattle.bl_folder.proofs.AmongLemmas.{Among, all_at, all_by, from_among, to_among}
+use Rattle.bl_out.proofs.AmongLemmas.{Among, all_at, all_by, from_among, to_among}
 use Rattle.bl_folder.proofs.OneLemmas.{pair_is}
-use Rattle.bl_folder.proofs.WrittenLemmas.{IsPlain}
+use Rattle.bl_out.proofs.WrittenLemmas.{IsPlain}
 
 -- ---- the batches of records
 

@@ -1,4 +1,3 @@
-mod AmongLemmas
 mod ApplyLemmas
 mod Finding
 mod FlushLemmas
@@ -25,4 +24,3 @@ mod SeenLemmas
 mod SettledLemmas
 mod SettledRows
 mod SyncedLemmas
-mod WrittenLemmas

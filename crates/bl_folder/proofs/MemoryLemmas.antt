@@ -23,9 +23,9 @@ use Rattle.bl_code.proofs.Basics.{all_from}
 use Rattle.bl_entry.proofs.ListLemmas.{all_append}
 use Rattle.bl_entry.proofs.OrderLemmas.{nat_cmp_lt}
 use Rattle.bl_entry.specs.Latest.{revision_of}
-use Rattle.bl_folder.proofs.AmongLemmas.{Among, among_filter, to_filter}
+use Rattle.bl_out.proofs.AmongLemmas.{Among, among_filter, to_filter}
 use Rattle.bl_folder.proofs.SeenLemmas.{both_true, key_same, newest_is, newest_there, one_revision, same_key}
-use Rattle.bl_folder.proofs.WrittenLemmas.{IsPlain}
+use Rattle.bl_out.proofs.WrittenLemmas.{IsPlain}
 use Rattle.bl_folder.specs.Flushes.{Follow, IsKeptAt}
 use Rattle.bl_folder.specs.Fronts.{last_after}
 use Rattle.bl_out.specs.Values.{same_revision}

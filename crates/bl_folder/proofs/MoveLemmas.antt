@@ -15,7 +15,7 @@ use Rattle.bl_entry.specs.declared.key.Entry.{Entry}
 use Rattle.bl_entry.specs.Revisions.{Revision, value_at}
 use Rattle.bl_entry.proofs.ItemLemmas.{each_cons, some_is, went}
 use Rattle.bl_entry.specs.Items.{each_of}
-use Rattle.bl_folder.proofs.AmongLemmas.{Among, all_left, all_right, among_left, among_parts, among_right, distinct_cross, distinct_join, distinct_left, distinct_right, each_more}
+use Rattle.bl_out.proofs.AmongLemmas.{Among, all_left, all_right, among_left, among_parts, among_right, distinct_cross, distinct_join, distinct_left, distinct_right, each_more}
 use Rattle.bl_folder.proofs.RecordLemmas.{number, sizes}
 use Rattle.bl_folder.proofs.SeenLemmas.{flip, same_value}
 use Rattle.bl_folder.specs.Entries.{records_by}

@@ -16,9 +16,10 @@ use Rattle.bl_build.specs.Listing.{Ascends}
 use Rattle.bl_code.proofs.Basics.{all_from}
 use Rattle.bl_entry.proofs.ItemLemmas.{all_of_map}
 use Rattle.bl_entry.proofs.ListLemmas.{all_append}
-use Rattle.bl_folder.proofs.AmongLemmas.{Among, Mapped, all_at, among_mapped, among_parts, distinct_join}
+use Rattle.bl_out.proofs.AmongLemmas.{Among, Mapped, all_at, among_mapped, among_parts, distinct_join}
 use Rattle.bl_folder.proofs.SeenLemmas.{key_same}
-use Rattle.bl_folder.proofs.WrittenLemmas.{reference_for}
+use Rattle.bl_out.proofs.WrittenLemmas.{reference_for}
+use Rattle.bl_out.proofs.StoredLemmas.{new_number, stored_in}
 use Rattle.bl_folder.specs.Entries.{records_by}
 use Rattle.bl_folder.specs.Holding.{BlobFile}
 use Rattle.bl_out.specs.Flushes.{NewBlob, stored}
@@ -37,16 +38,6 @@ unfolding placed
 behind place [] = tt
 behind place (r ∷ rs) =
     (omega arith, all_from (λ (q : BlobAt). place + size_of r + 32 ≤ q.offset) (λ q. place + 32 ≤ q.offset) (placed (place + size_of r) rs) (λ q h. omega arith) (behind (place + size_of r) rs))
-
--- values end before the file does
-pub within : (place : ℕ) (rs : List Record) → AllByRecursion (λ r. r.offset + length r.value ≤ place + sum_by size_of rs) (placed place rs)
-unfolding placed
-within place [] = tt
-within place (r ∷ rs) =
-    let total = sum_by-cons size_of r rs in (
-      omega (arith, total),
-      all_from (λ (q : BlobAt). q.offset + length q.value ≤ place + size_of r + sum_by size_of rs) (λ q. q.offset + length q.value ≤ place + sum_by size_of (r ∷ rs)) (placed (place + size_of r) rs) (λ q h. omega (arith, total, h)) (within (place + size_of r) rs),
-    )
 
 pub count_placed : (place : ℕ) (rs : List Record) → length (placed place rs) ≡ length rs
 unfolding placed
@@ -85,12 +76,6 @@ named file place (r ∷ rs) q (inr h) =
 abbrev pub number : BlobFile → ℕ
 number b = b.meta.number
 
-abbrev pub new_number : NewBlob → ℕ
-new_number b = b.named.number
-
-abbrev pub stored_in : NewBlob → List Stored
-stored_in b = stored_of b.named.number b.records
-
 pub find_behind : (n : ℕ) (olds news : List BlobFile) → AllByRecursion (λ b. number b < n) olds → find (λ b. b.meta.number == n) (olds ++ news) ≡ find (λ b. b.meta.number == n) news
 find_behind n [] news h = refl
 find_behind n (b ∷ bs) news h = find_cons (λ b. b.meta.number == n) b (bs ++ news) (find (λ b. b.meta.number == n) news) (not_eqb b.meta.number n (λ e. let lt : b.meta.number < n = h.0 in omega (arith, e))) (find_behind n bs news h.1)
@@ -112,28 +97,6 @@ module _ (g : NewBlob → BlobFile) (same : (b : NewBlob) → number (g b) ≡ n
         ap (λ o. option_and_then (value_in q.key (index_at (new_number b) q)) (option_and_then (λ (c : BlobFile). Some c.records) o)) (find_behind (new_number b) olds (map g bs) low ∙ find_file bs b up there)
         ∙ ap (value_in q.key (index_at (new_number b) q)) (keeps b)
         ∙ ap (option_and_then (λ (r : BlobAt). Some r.value)) (named (new_number b) 30 b.records q within_)
-
--- ---- where a record of several files is
-
-pub record InFile (bs : List NewBlob) (s : Stored) : Type 0 where
-  pub file : NewBlob
-  pub there : Among file bs
-  pub at : BlobAt
-  pub inside : Among at (blobs_of file.records)
-  pub is : stored_at file.named.number at ≡ s
-
-in_more : (b : NewBlob) (bs : List NewBlob) (s : Stored) → InFile bs s → InFile (b ∷ bs) s
-in_more b bs s f = record { file = f.file; there = inr f.there; at = f.at; inside = f.inside; is = f.is }
-
-in_first : (b : NewBlob) (bs : List NewBlob) (s : Stored) → Mapped (stored_at b.named.number) (blobs_of b.records) s → InFile (b ∷ bs) s
-in_first b bs s m = record { file = b; there = inl refl; at = m.from; inside = m.there; is = m.is }
-
-pub in_file : (bs : List NewBlob) (s : Stored) → Among s (stored bs) → InFile bs s
-in_file [] s h = absurd h
-in_file (b ∷ bs) s h = elim (among_parts (stored_in b) (stored bs) s h) [
-  | inl here_ ↦ in_first b bs s (among_mapped (stored_at b.named.number) (blobs_of b.records) s here_)
-  | inr more ↦ in_more b bs s (in_file bs s more)
-]
 
 -- ---- references by file
 

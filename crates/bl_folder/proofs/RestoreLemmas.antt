@@ -18,8 +18,9 @@ use Rattle.bl_code.proofs.Basics.{ok_is}
 use Rattle.bl_entry.proofs.ItemLemmas.{ok_of, some_is, went}
 use Rattle.bl_folder.specs.Flushes.{edit_for}
 use Rattle.bl_folder.specs.Installing.{FlushesRestore, OneEditMore, standing_behind}
-use Rattle.bl_folder.proofs.FlushLemmas.{IndexIsSpelled, applies}
-use Rattle.bl_folder.proofs.WrittenLemmas.{IndexIsRead}
+use Rattle.bl_folder.proofs.FlushLemmas.{applies}
+use Rattle.bl_out.proofs.StoredLemmas.{IndexIsSpelled}
+use Rattle.bl_out.proofs.WrittenLemmas.{IndexIsRead}
 
 edits_more : (rs : List (List ℕ)) (es : List Edit) (bytes : List ℕ) (e : Edit) → edits_of rs ≡ Some es → read_edit bytes ≡ Ok e → edits_of (rs ++ bytes ∷ []) ≡ Some (es ++ e ∷ [])
 edits_more [] es bytes e h r = ap (λ x. option_and_then (λ y. option_and_then (λ ys. Some (y ∷ ys)) (Some [])) (result_ok x)) r ∙ ap (λ xs. Some (xs ++ e ∷ [])) (some_is h)

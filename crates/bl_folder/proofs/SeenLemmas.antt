@@ -9,7 +9,7 @@ use Rattle.bl_code.specs.Order.{same_bytes}
 use Rattle.bl_entry.specs.Revisions.{Revision, later, newest, seen, value_at}
 use Rattle.bl_code.proofs.Basics.{all_from}
 use Rattle.bl_entry.proofs.ItemLemmas.{some_is}
-use Rattle.bl_folder.proofs.AmongLemmas.{Among, all_at, among_filter, to_filter}
+use Rattle.bl_out.proofs.AmongLemmas.{Among, all_at, among_filter, to_filter}
 use Rattle.bl_out.specs.Values.{same_revision}
 
 pub both_true : (a b : Bool) → (a && b) ≡ true → (a ≡ true) × (b ≡ true)

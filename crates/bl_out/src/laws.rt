@@ -4,6 +4,11 @@ ghost use Rattle.bl_out.specs.Laws.{ApartInAnyOrder, OnceInAnyOrder, ValuesAreRe
 ghost use Rattle.bl_out.specs.Made.{AddedIsMade, BegunIsMade, SealsNext, SealsToTheEnd};
 ghost use Rattle.bl_out.specs.Reads.{OutputsAreRead};
 
+use bl_code::blob_indexes_are_unique;
+use bl_entry::keys_are_read;
+use bl_index::index_is_read_again;
+use bl_table::tables_are_read_again;
+
 /// Where an index resolves to a value of a blob file, its record stands in the file: it begins 32 bytes and the
 /// key before the index's offset, and is a whole record of this key and size.
 pub fn values_are_read_at()
@@ -37,4 +42,9 @@ pub fn outputs_are_sealed_file_by_file()
 /// the edit names them, and they write what the output was given.
 pub fn finished_outputs_are_read()
     ensures { OutputsAreRead }
-{}
+{
+    index_is_read_again();
+    blob_indexes_are_unique();
+    keys_are_read();
+    tables_are_read_again();
+}

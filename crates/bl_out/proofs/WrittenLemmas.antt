@@ -15,7 +15,7 @@ use Rattle.bl_entry.specs.Entries.{IsProper, is_deletion}
 use Rattle.bl_entry.specs.Revisions.{Revision}
 use Rattle.bl_entry.specs.Items.{each_of}
 use Rattle.bl_entry.specs.Latest.{revision_of}
-use Rattle.bl_folder.proofs.AmongLemmas.{each_more}
+use Rattle.bl_out.proofs.AmongLemmas.{each_more}
 use Rattle.bl_out.specs.Finding.{◌then◌}
 use Rattle.bl_out.specs.References.{Reference, index_in, reference_of, references}
 use Rattle.bl_out.specs.Tables.{IsPlaced}
