@@ -8,7 +8,6 @@ use Rattle.std.specs.declared.cmp.Ordering.TheVariants.{Less}
 use Rattle.std.proofs.lemmas.Bool.{eq-eqb, and_left, and_right, false≢true}
 use Rattle.std.proofs.lemmas.List.{map-append}
 use Rattle.std.proofs.lemmas.List.Sums.{sum_by-append, sum_by-cons, sum_by-take-drop}
-use Rattle.bl_code.specs.BlobIndex.{IsBlobIndex, blob_index}
 use Rattle.bl_entry.specs.declared.key.Entry.{Entry}
 use Rattle.bl_entry.specs.Batches.{Batch}
 use Rattle.bl_entry.specs.Entries.{IsProper}
@@ -38,9 +37,8 @@ use Rattle.bl_out.specs.References.{Reference, bytes_of, count_of, references}
 use Rattle.bl_out.specs.Tables.{IsAsNamed, IsNewerAbove, IsPlaced, IsTablePlaced, IsTableProper, TableFile, least_of, oldest_of, same_record, table_entries}
 use Rattle.bl_out.specs.Values.{revision_of as revision_in, same_revision}
 use Rattle.bl_out.specs.Written.{Stored}
-use Rattle.bl_blob.specs.declared.blob.BlobAt.{BlobAt}
 use Rattle.bl_blob.specs.declared.blob.Totals.{Totals}
-use Rattle.bl_blob.specs.BlobFile.{blobs_of, size_of, totals_of}
+use Rattle.bl_blob.specs.BlobFile.{blobs_of, totals_of}
 use Rattle.bl_edit.specs.declared.edit.BlobAddition.{BlobAddition}
 use Rattle.bl_edit.specs.declared.edit.NewTable.{NewTable}
 use Rattle.bl_edit.specs.Bounds.{is_number}

@@ -16,7 +16,7 @@ use Rattle.bl_build.specs.Listing.{Ascends}
 use Rattle.bl_code.proofs.Basics.{all_from}
 use Rattle.bl_entry.proofs.ItemLemmas.{all_of_map}
 use Rattle.bl_entry.proofs.ListLemmas.{all_append}
-use Rattle.bl_out.proofs.AmongLemmas.{Among, Mapped, all_at, among_mapped, among_parts, distinct_join}
+use Rattle.bl_out.proofs.AmongLemmas.{Among, all_at, distinct_join}
 use Rattle.bl_folder.proofs.SeenLemmas.{key_same}
 use Rattle.bl_out.proofs.WrittenLemmas.{reference_for}
 use Rattle.bl_out.proofs.StoredLemmas.{new_number, stored_in}
@@ -26,7 +26,7 @@ use Rattle.bl_out.specs.Flushes.{NewBlob, stored}
 use Rattle.bl_out.specs.References.{Reference}
 use Rattle.bl_out.specs.Tables.{least_of, same_record}
 use Rattle.bl_out.specs.Values.{is_named, resolved, value_in}
-use Rattle.bl_out.specs.Written.{Stored, stored_at, stored_of}
+use Rattle.bl_out.specs.Written.{Stored, stored_at}
 
 pub not_eqb : (m n : ℕ) → (m ≡ n → ⊥) → (m == n) ≡ false
 not_eqb m n h = grind (arith, nat_tests)
