@@ -1,2 +1,3 @@
 mod OrderLemmas
 mod ValueLemmas
+pub mod QuietLemmas
