@@ -1,3 +1,4 @@
 mod OrderLemmas
 mod ValueLemmas
 pub mod QuietLemmas
+pub mod AppendLemmas
