@@ -2,3 +2,4 @@ mod OrderLemmas
 mod ValueLemmas
 pub mod QuietLemmas
 pub mod AppendLemmas
+pub mod SpansLemmas
