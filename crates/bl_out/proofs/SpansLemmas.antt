@@ -1,6 +1,6 @@
 -- What is kept of the entries of a table, with one entry more.
 use Rattle.std.proofs.Common.{◌≡◌, ◌≢◌, Decides, ℕ, suc, ◌+◌, ◌≤◌, ◌<◌, arith, length-append, Bool, true, false, List, [], ◌∷◌, ◌++◌, length, refl, sym, ◌∙◌, ap, subst, Option, Some, None, append-nil}
-use Rattle.std.specs.Prelude.{IfSome, MatchOption, nat_eq, not, take, drop, map, min, max, filter_map, flat_map, unwrap_or, ◌%◌, ◌^◌}
+use Rattle.std.specs.Prelude.{MatchOption, nat_eq, not, take, drop, map, min, max, flat_map, unwrap_or, ◌%◌, ◌^◌}
 use Rattle.std.proofs.lemmas.Bool.{eq-eqb, eqb-true, leb-false}
 use Rattle.std.proofs.lemmas.Bool.Decides.{Decides-eqb, same_from_decides}
 use Rattle.std.proofs.lemmas.Map.Text.{is_eq-slice_cmp}
@@ -24,8 +24,8 @@ use Rattle.bl_code.specs.Order.{same_bytes}
 use Rattle.bl_code.specs.BlobIndex.{IsBlobIndex}
 use Rattle.bl_edit.specs.declared.edit.NewTable.{NewTable}
 use Rattle.bl_out.specs.References.{Reference, reference_of, references}
-use Rattle.bl_out.specs.Tables.{IsAsNamed, TableFile, first_of, greatest_of, least_of}
-use Rattle.bl_out.specs.Outputs.{NamesTable, OutTable, close_table, item_of, is_of_other, items_of, open_bytes, open_size, passes}
+use Rattle.bl_out.specs.Tables.{IsAsNamed, least_of}
+use Rattle.bl_out.specs.Outputs.{OutTable, close_table, item_of, is_of_other, items_of, open_bytes, open_size, passes}
 use Rattle.bl_out.specs.States.{Ends, Hand, IsClosedAs, IsHandOf, Spans, ends_at, ends_of, oldest_in, widened}
 
 -- the lesser of two numbers, where there are both
@@ -279,13 +279,16 @@ as_named (e ∷ es) x named are first last lower upper oldest = record {
   oldest = sym oldest;
 }
 
-copied : (es : List Entry) (o : Option Ends) (copy : Ends) → 1 ≤ length es → o ≡ ends_of es → IfSome o (λ x. copy ≡ x) → ends_of es ≡ Some copy
+abbrev pub no_ends : Ends
+no_ends = record { smallest = []; largest = []; least = 0; most = 0 }
+
+copied : (es : List Entry) (o : Option Ends) (copy : Ends) → 1 ≤ length es → o ≡ ends_of es → MatchOption o (copy ≡ no_ends) (λ x. copy ≡ x) → ends_of es ≡ Some copy
 copied [] o copy some are same = absurd (omega (arith, some))
 copied (e ∷ es) None copy some are same = absurd cc
 copied (e ∷ es) (Some x) copy some are same = sym are ∙ ap Some (sym same)
 
 pub finished_closed : (t : OutTable) (h : Hand) (rest : List ℕ) (size oldest : ℕ) (ends : Ends) → IsHandOf t h → ((es : List Entry) → Spans es h → table (items_of es) ≡ open_bytes es ++ rest)
-    → size ≡ h.written + length rest → IfSome h.ends (λ x. ends ≡ x) → oldest ≡ unwrap_or h.oldest 0
+    → size ≡ h.written + length rest → MatchOption h.ends (ends ≡ no_ends) (λ x. ends ≡ x) → oldest ≡ unwrap_or h.oldest 0
     → IsClosedAs (close_table t) (record { level = 0; number = h.number; size = size; smallest = ends.smallest; largest = ends.largest; least_seq = ends.least; most_seq = ends.most; oldest_blob = oldest })
 finished_closed t h rest size oldest ends is whole sum same file =
     let spans = is.spans in

@@ -1,6 +1,6 @@
 //! The table that is written now.
 
-ghost use Rattle.std.specs.Prelude.{◌≡◌, ℕ, ◌⊎◌, List, [], ◌∷◌, ◌++◌, length, min, max, Option, None, Some, Err, true, false, ◌≤◌, IfOk, IfErr, IfSome, IsErrOf, IsSome, MatchOption, OnErr, OnOk};
+ghost use Rattle.std.specs.Prelude.{◌≡◌, ℕ, ◌⊎◌, List, [], ◌∷◌, ◌++◌, length, min, max, Option, None, Some, Err, true, false, ◌≤◌, IfOk, IfErr, IsErrOf, IsSome, MatchOption, OnErr, OnOk};
 ghost use Rattle.std.specs.List.{cons_option};
 ghost use Rattle.bl_names.specs.Names.{IsNumber, name_of};
 ghost use Rattle.bl_names.specs.declared.name.FileName.TheVariants.{Table};
@@ -142,9 +142,9 @@ fn widen(so_far: Option<Ends>, first: Option<Ends>, key: Octets, sequence: u64) 
     }
 }
 
-// A copy of the ends, or of the least that there may be.
+// A copy of the ends; where there are none, empty keys and 0.
 fn copy_of(alloc: Global, ends: &Option<Ends>) -> Result<Ends, JobErr>
-    ensures copy { IfOk result (λ copy. IfSome ends.now (λ e. copy ≡ e)) }
+    ensures copy { IfOk result (λ copy. MatchOption ends.now (copy ≡ record { smallest = []; largest = []; least = 0; most = 0 }) (λ e. copy ≡ e)) }
     ensures memory { IfErr result (λ e. e ≡ OutOfMemory) }
 {
     match ends {

@@ -1,6 +1,6 @@
 use Rattle.std.proofs.Common.{◌∙◌, ap, sym, subst, ◌+◌, length, List, ℕ, Some}
 use Rattle.bl_out.specs.Outputs.{items_of, open_bytes}
-use Rattle.bl_out.specs.States.{Hand, Spans}
+use Rattle.bl_out.specs.States.{Spans}
 use Rattle.bl_out.proofs.SpansLemmas.{bytes_more, ends_widened, entry_short, oldest_lesser, spans_more}
 use Rattle.bl_out.proofs.table.TableInHand.put.Goals as goal
 
