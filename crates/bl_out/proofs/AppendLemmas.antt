@@ -9,10 +9,8 @@ use Rattle.bl_site.specs.Disk.{Disk, File, Name}
 use Rattle.bl_site.specs.Calls.{Appends}
 use Rattle.bl_blob.specs.BlobFile.{Record, given, header, record_bytes, record_head, totals_of}
 use Rattle.bl_blob.specs.declared.blob.Totals.{Totals}
+use Rattle.bl_entry.proofs.ItemLemmas.{some_is}
 use Rattle.bl_out.specs.Making.{Follows}
-
-some_is : {A : Type 0} {x y : A} → Some x ≡ Some y → x ≡ y
-some_is e = cc
 
 -- the file is still there
 pub there_behind : (name : Name) (bytes : List ℕ) (old new : Disk) → Appends name bytes bytes old new → IsSome (new name)

@@ -23,6 +23,7 @@ use Rattle.bl_code.specs.Numbers.{fixed32, fixed64}
 use Rattle.bl_code.specs.Order.{same_bytes}
 use Rattle.bl_code.specs.BlobIndex.{IsBlobIndex}
 use Rattle.bl_edit.specs.declared.edit.NewTable.{NewTable}
+use Rattle.bl_entry.proofs.ItemLemmas.{some_is}
 use Rattle.bl_out.specs.References.{Reference, reference_of, references}
 use Rattle.bl_out.specs.Tables.{IsAsNamed, least_of}
 use Rattle.bl_out.specs.Outputs.{OutTable, close_table, item_of, is_of_other, items_of, open_bytes, open_size, passes}
@@ -249,9 +250,6 @@ most_is x (e ∷ es) = most_is (widened x e) es
 largest_is : (x : Ends) (e : Entry) (es : List Entry) → x.largest ≡ key_bytes e.key → option_map (λ l. key_bytes l.key) (last_of (e ∷ es)) ≡ Some (fold widened x es).largest
 largest_is x e [] is = ap Some (sym is)
 largest_is x e (f ∷ es) is = largest_is (widened x f) f es refl
-
-some_is : {A : Type 0} {x y : A} → Some x ≡ Some y → x ≡ y
-some_is e = cc
 
 -- the last entry has the largest key
 pub largest_of : (es : List Entry) (x : Ends) → ends_of es ≡ Some x → option_map (λ l. key_bytes l.key) (last_of es) ≡ Some x.largest
