@@ -1,11 +1,14 @@
 mod Adding
-pub mod AmongLemmas
 mod BehindLemmas
 mod FitLemmas
 mod OrderLemmas
 mod Reading
 mod Sealing
 mod SpellLemmas
-pub mod StoredLemmas
 mod ValueLemmas
+pub mod AmongLemmas
+pub mod AppendLemmas
+pub mod QuietLemmas
+pub mod SpansLemmas
+pub mod StoredLemmas
 pub mod WrittenLemmas
