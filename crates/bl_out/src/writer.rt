@@ -103,6 +103,8 @@ impl Output {
         ensures draws { (o : Out) → IsOut o self.old → Draws (made_for o entry.now) self.old self.new numbers.old numbers.new }
         ensures full { (o : Out) → IsOut o self.old → (n : ℕ) → result ≡ Err (Full n) → (numbers.new ≡ 10 ^ 15) × (10 ^ 15 < numbers.old + made_for o entry.now) }
         ensures refused { IfErr result (λ e. Refuses S.Site e self.old self.new numbers.old numbers.new site.old site.new) }
+        // The folder was asked, or no file begins and the site is as it was.
+        ensures asked { Rose (S.changes site.old) (S.changes site.new) ⊎ ((site.new ≡ site.old) × (numbers.new ≡ numbers.old)) }
         ensures touches { TouchesOnly S.Site (names_of self.new.drawn) site.old site.new }
         ensures tells_nothing { TellsNothing S.Site site.old site.new }
         ensures causes { IfErr result IsAddCause }
@@ -125,6 +127,8 @@ impl Output {
         ensures none { result ≡ Ok None → (self.new ≡ self.old) × (site.new ≡ site.old) }
         ensures drawn { self.new.drawn ≡ self.old.drawn }
         ensures refused { IfErr result (λ e. Refuses S.Site e self.old self.new 0 0 site.old site.new) }
+        // The folder was asked, or the site is as it was.
+        ensures asked { Rose (S.changes site.old) (S.changes site.new) ⊎ (site.new ≡ site.old) }
         ensures touches { TouchesOnly S.Site (names_of self.new.drawn) site.old site.new }
         ensures tells_nothing { TellsNothing S.Site site.old site.new }
         ensures causes { IfErr result IsSealCause }
