@@ -1,7 +1,23 @@
-//! What the table files and blob files of a folder hold, and how their entries refer to each other: the
-//! definitions under the files that a flush or a compaction makes.
+//! What a job writes: tables and blob files, with the numbers that it draws for them; and what the table files and
+//! blob files of a folder hold, and how their entries refer to each other.
 #![tactic(auto)]
 
+mod append;
+mod blob;
+mod error;
 mod laws;
+mod make;
+mod numbers;
+mod sealed;
+mod table;
+mod writer;
 
-pub use laws::{order_does_not_matter, values_are_read_at};
+pub use error::JobErr;
+pub use laws::{
+    finished_outputs_are_read, order_does_not_matter, outputs_are_sealed_file_by_file,
+    outputs_write_what_they_are_given,
+    values_are_read_at,
+};
+pub use numbers::Numbers;
+pub use sealed::Sealed;
+pub use writer::Output;

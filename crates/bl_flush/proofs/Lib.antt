@@ -1,0 +1,4 @@
+mod Making
+mod KeptMore
+mod TakenLemmas
+mod SealedLemmas
