@@ -3,7 +3,7 @@ mod BatchReading
 mod FirstOfStripe
 pub mod ItemLemmas
 mod KeptLemmas
-mod KeyLemmas
+pub mod KeyLemmas
 pub mod LaterLemmas
 mod LatestLemmas
 pub mod ListLemmas

@@ -1,3 +1,3 @@
-mod IndexLemmas
+pub mod IndexLemmas
 mod MeterLemmas
 mod Rows

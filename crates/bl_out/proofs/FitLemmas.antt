@@ -14,7 +14,8 @@ use Rattle.bl_entry.proofs.ItemLemmas.{all_of_map, some_is}
 use Rattle.bl_entry.proofs.ListLemmas.{by_test}
 use Rattle.bl_edit.specs.Bounds.{is_key, is_number, is_seq, table_fits}
 use Rattle.bl_edit.specs.declared.edit.NewTable.{NewTable}
-use Rattle.bl_out.proofs.SpellLemmas.{index_read, key_fits}
+use Rattle.bl_index.proofs.IndexLemmas.{reads_all}
+use Rattle.bl_out.proofs.SpellLemmas.{key_fits}
 use Rattle.bl_out.specs.References.{Reference, index_in, references}
 use Rattle.bl_out.specs.Tables.{IsAsNamed, first_of, greatest_of, least_of, oldest_of}
 
@@ -86,7 +87,7 @@ one_names user Deletion value rs v h = h
 one_names user Value value rs v h = h
 one_names user BlobRef value rs (file, offset, size, is, low, high) h =
     subst (λ r. AllByRecursion (λ (x : Reference). IsTrue (is_number x.index.file)) (cons_option (option_map (λ index. record { key = user; index = index }) (result_ok r)) rs))
-    (sym (index_read value (record { file = file; offset = offset; size = size }) is)) (number_fits file low high, h)
+    (sym (reads_all value (record { file = file; offset = offset; size = size }) is)) (number_fits file low high, h)
 
 names_fit : (es : List Entry) → AllByRecursion IsProper es → AllByRecursion (λ (r : Reference). IsTrue (is_number r.index.file)) (references es)
 names_fit [] h = tt

@@ -34,7 +34,7 @@ use Rattle.bl_edit.specs.declared.edit.NewTable.{NewTable}
 use Rattle.bl_out.proofs.AmongLemmas.{each_more}
 use Rattle.bl_out.proofs.BehindLemmas.{items_ascend, nat_less, tables_all, tables_behind, written_behind}
 use Rattle.bl_out.proofs.FitLemmas.{named_fits, number_fits}
-use Rattle.bl_out.proofs.SpellLemmas.{key_read}
+use Rattle.bl_entry.proofs.KeyLemmas.{spelled_read}
 use Rattle.bl_out.proofs.StoredLemmas.{IndexIsSpelled, stored_are}
 use Rattle.bl_out.proofs.WrittenLemmas.{IndexIsRead, written_proper}
 use Rattle.bl_out.specs.Files.{entries_in, file, of_size}
@@ -43,7 +43,7 @@ use Rattle.bl_out.specs.Flushes.{HasBlob, IsNewBlob, IsNewTable, NewBlob, stored
 use Rattle.bl_out.specs.Held.{HoldsSealed}
 use Rattle.bl_out.specs.Made.{IsBlobFrom, IsTableFrom, all_entries, all_stored}
 use Rattle.bl_out.specs.Outputs.{AreNamed, BlobOf, NamesTable, OutBlob, OutFile, OutTable, TableOf, addition_of, close_blob, close_table, files_of, finished, items_of}
-use Rattle.bl_out.specs.Reads.{AreBehind, IsSynced, OutputsAreRead}
+use Rattle.bl_out.specs.Reads.{AreBehind, IsSynced, OutputsAreRead, OutputsFit}
 use Rattle.bl_out.specs.States.{AscendTo}
 use Rattle.bl_out.specs.Tables.{TableFile, table_entries, table_in}
 use Rattle.bl_out.specs.Written.{Stored, Writes, stored_of}
@@ -56,7 +56,7 @@ entry_in i = entry_of i.key i.value
 entry_again : (e : Entry) (i : BlockEntry) → IsKey e.key → i.key ≡ key_bytes e.key → i.value ≡ e.value → entry_in i ≡ Some e
 entry_again e i fits key value =
     ap (λ k. result_ok (read_key k) then λ q. Some (record { key = q; value = i.value })) key
-    ∙ ap (λ r. result_ok r then λ q. Some (record { key = q; value = i.value })) (key_read e.key fits)
+    ∙ ap (λ r. result_ok r then λ q. Some (record { key = q; value = i.value })) (spelled_read e.key fits)
     ∙ ap (λ v. Some (record { key = e.key; value = v })) value
 
 entries_again : (es : List Entry) (is : List BlockEntry) → AllByRecursion IsProper es → map item_read is ≡ items_of es → each_of entry_in is ≡ Some es
@@ -99,12 +99,11 @@ pub record Zipped (disk : Disk) (from next : ℕ) (ts : List OutTable) (ns : Lis
   pub new : AllByRecursion (IsNewTable from) files
   pub there : AllByRecursion (λ t. table_in (folder_of disk) t.meta ≡ Some t) files
   pub synced : AllByRecursion (λ t. (t.meta.number < next) × IsSynced disk (name_of (Table t.meta.number))) files
-  pub fit : AllByRecursion (λ n. IsTrue (table_fits n)) ns
 
 module _ (agree : OrdersAgree) (built : ReadsBuilt) (disk : Disk) (from next : ℕ) (first : 1 ≤ from) (last : next ≤ 10 ^ 15) where
   zipped : (ts : List OutTable) (ns : List NewTable) → AreNamed (map close_table ts) ns → AllByRecursion (λ n. n.size < 2 ^ 64) ns → AllByRecursion (λ t. HoldsSealed disk (TableOf (close_table t))) ts
       → AllByRecursion (IsTableFrom from) ts → AscendTo next (map (λ t. t.number) ts) → AllByRecursion (λ t. AllByRecursion IsProper t.entries) ts → AllByRecursion (λ t. AreBehind t.entries) ts → Zipped disk from next ts ns
-  zipped [] [] named sizes held tables below proper up = record { files = []; named = refl; entries = refl; count = refl; new = tt; there = tt; synced = tt; fit = tt }
+  zipped [] [] named sizes held tables below proper up = record { files = []; named = refl; entries = refl; count = refl; new = tt; there = tt; synced = tt }
   zipped [] (n ∷ ns) named sizes held tables below proper up = absurd named
   zipped (t ∷ ts) [] named sizes held tables below proper up = absurd named
   zipped (t ∷ ts) (n ∷ ns) named sizes held tables below proper up =
@@ -121,7 +120,6 @@ module _ (agree : OrdersAgree) (built : ReadsBuilt) (disk : Disk) (from next : �
         new = (record { level = one.level; number = subst (λ (k : ℕ). from ≤ k) (sym number) low; named = one.as_named }, more.new);
         there = (table_read agree built disk t n one sizes.0 held.0 proper.0 up.0, more.there);
         synced = (subst (λ k. (k < next) × IsSynced disk (name_of (Table k))) (sym number) (high, table_synced disk t held.0), more.synced);
-        fit = (named_fits t.entries n proper.0 one.level (omega arith) (omega arith) one.as_named, more.fit);
       }
 
 -- ---- a blob file
@@ -132,6 +130,17 @@ count_short (r ∷ rs) = let total = sum_by-cons size_of r rs in let more : leng
 
 abbrev file_of : OutBlob → NewBlob
 file_of b = record { named = addition_of b; records = b.records }
+
+module _ (from next size : ℕ) (bound : size ≤ 2 ^ 40) (first : 1 ≤ from) (last : next ≤ 10 ^ 15) where
+  new_file : (b : OutBlob) → IsBlobFrom from size b → b.number < next → IsNewBlob from (file_of b)
+  new_file b h below =
+      let low : from ≤ b.number = h.number in
+      let short : 30 + sum_by size_of b.records < size + 2 ^ 25 = h.within in
+      record { number = low; fits = number_fits b.number (omega arith) (omega arith); some = h.some; totals = refl; size = omega arith }
+
+  files_new : (bs : List OutBlob) → AllByRecursion (IsBlobFrom from size) bs → AscendTo next (map (λ b. b.number) bs) → AllByRecursion (λ b. IsNewBlob from (file_of b)) bs
+  files_new [] h below = tt
+  files_new (b ∷ bs) h below = (new_file b h.0 below.0, files_new bs h.1 below.2)
 
 -- what is read of it
 pub record IsFile (disk : Disk) (from next : ℕ) (b : OutBlob) : Type 0 where
@@ -152,7 +161,7 @@ module _ (disk : Disk) (from next size : ℕ) (bound : size ≤ 2 ^ 40) (first :
       let there : file (folder_of disk) (Blob b.number) ≡ Some (blob_file b.records) = ap (option_map (λ (f : File). f.read)) held.there ∙ ap Some held.read in
       let spelled : IsBlobFile (blob_file b.records) b.records = record { records = h.records; count = omega arith; spelled = refl } in
       record {
-        new = record { number = low; fits = number_fits b.number (omega arith) (omega arith); some = h.some; totals = refl; size = omega arith };
+        new = new_file from next size bound first last b h below;
         has = record {
           bytes = blob_file b.records;
           there = there;
@@ -175,9 +184,21 @@ additions_same : (bs : List OutBlob) → map (λ b. b.named) (map file_of bs) �
 additions_same [] = refl
 additions_same (b ∷ bs) = ap (λ more. addition_of b ∷ more) (additions_same bs)
 
-additions_fit : (disk : Disk) (from next : ℕ) (bs : List OutBlob) → AllByRecursion (IsFile disk from next) bs → AllByRecursion (λ a. IsTrue (addition_fits a)) (map addition_of (map close_blob bs))
-additions_fit disk from next [] h = tt
-additions_fit disk from next (b ∷ bs) h = (h.0.new.fits, additions_fit disk from next bs h.1)
+additions_fit : (from : ℕ) (bs : List OutBlob) → AllByRecursion (λ b. IsNewBlob from (file_of b)) bs → AllByRecursion (λ a. IsTrue (addition_fits a)) (map addition_of (map close_blob bs))
+additions_fit from [] h = tt
+additions_fit from (b ∷ bs) h = (h.0.fits, additions_fit from bs h.1)
+
+-- each table is named in bounds
+tables_fit : (from next : ℕ) → 1 ≤ from → next ≤ 10 ^ 15 → (ts : List OutTable) (ns : List NewTable) → AreNamed (map close_table ts) ns → AllByRecursion (IsTableFrom from) ts → AscendTo next (map (λ t. t.number) ts) → AllByRecursion (λ t. AllByRecursion IsProper t.entries) ts
+    → AllByRecursion (λ n. IsTrue (table_fits n)) ns
+tables_fit from next first last [] [] named tables below proper = tt
+tables_fit from next first last [] (n ∷ ns) named tables below proper = absurd named
+tables_fit from next first last (t ∷ ts) [] named tables below proper = absurd named
+tables_fit from next first last (t ∷ ts) (n ∷ ns) named tables below proper =
+    let number : n.number ≡ t.number = named.0.number in
+    let low : from ≤ t.number = tables.0.number in
+    let high : t.number < next = below.0 in
+    (named_fits t.entries n proper.0 named.0.level (omega arith) (omega arith) named.0.as_named, tables_fit from next first last ts ns named.1 tables.1 below.2 proper.1)
 
 numbers_ascend : (next : ℕ) (bs : List OutBlob) → AscendTo next (map (λ b. b.number) bs) → IsStrictlySortedBy nat_cmp (map (λ b. b.named.number) (map file_of bs))
 unfolding IsStrictlySortedBy
@@ -235,6 +256,22 @@ outputs_are_read reads spells agree built disk from next o e made first last pro
             (all_from (IsFile disk from next) (λ b. (b.number < next) × IsSynced disk (name_of (Blob b.number))) o.blobs (λ b h. (h.below, h.synced)) files);
       },
       z.count,
-      subst IsEdit (sym edit.is)
-          (record { last_sequence = tt; options = tt; deleted = tt; added = z.fit; blobs = additions_fit disk from next o.blobs files; garbage = tt }),
     )
+
+pub outputs_fit : IndexIsRead → IndexIsSpelled → OutputsFit
+outputs_fit reads spells from next o e made first last proper edit =
+    let threshold : ℕ = o.options.min_blob_size in
+    let bound : o.options.blob_file_size ≤ 2 ^ 40 = made.options.blob_file_size.1 in
+    let files = files_new from next o.options.blob_file_size bound first last o.blobs made.blobs made.ordered.blobs in
+    let new : AllByRecursion (IsNewBlob from) (map file_of o.blobs) = all_of_map file_of (IsNewBlob from) o.blobs files in
+    let writes : Writes threshold (stored (map file_of o.blobs)) o.given (all_entries o.tables) = subst (λ (ss : List Stored). Writes threshold ss o.given (all_entries o.tables)) (sym (stored_same o.blobs)) made.writes in
+    let all_proper : AllByRecursion IsProper (all_entries o.tables) = written_proper threshold (stored (map file_of o.blobs)) o.given (all_entries o.tables) writes proper (stored_are reads spells from (map file_of o.blobs) new) in
+    subst IsEdit (sym edit.is)
+    (record {
+      last_sequence = tt;
+      options = tt;
+      deleted = tt;
+      added = tables_fit from next first last o.tables edit.tables edit.named made.tables made.ordered.tables (tables_all IsProper o.tables all_proper);
+      blobs = additions_fit from o.blobs files;
+      garbage = tt;
+    })

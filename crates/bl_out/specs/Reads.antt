@@ -44,4 +44,8 @@ pub record ReadsAs (threshold from next : ℕ) (es : List Entry) (disk : Disk) (
 abbrev pub OutputsAreRead : Type 0
 OutputsAreRead = (disk : Disk) (from next : ℕ) (o : Out) (e : Edit) → IsMade from next o → 1 ≤ from → next ≤ 10 ^ 15 → AllByRecursion IsProper o.given → AreBehind o.given
     → HoldsOut disk (finished o) → IsEditOf (finished o) e → FitsWords e
-    → (files : Flushed) × ReadsAs o.options.min_blob_size from next o.given disk e files × (length files.tables ≡ length o.tables) × IsEdit e
+    → (files : Flushed) × ReadsAs o.options.min_blob_size from next o.given disk e files × (length files.tables ≡ length o.tables)
+
+-- Its edit is in bounds.
+abbrev pub OutputsFit : Type 0
+OutputsFit = (from next : ℕ) (o : Out) (e : Edit) → IsMade from next o → 1 ≤ from → next ≤ 10 ^ 15 → AllByRecursion IsProper o.given → IsEditOf (finished o) e → IsEdit e

@@ -2,7 +2,7 @@
 
 ghost use Rattle.bl_out.specs.Laws.{ApartInAnyOrder, OnceInAnyOrder, ValuesAreReadAt, ValuesInAnyOrder};
 ghost use Rattle.bl_out.specs.Made.{AddedIsMade, BegunIsMade, SealsNext, SealsToTheEnd};
-ghost use Rattle.bl_out.specs.Reads.{OutputsAreRead};
+ghost use Rattle.bl_out.specs.Reads.{OutputsAreRead, OutputsFit};
 
 use bl_code::blob_indexes_are_unique;
 use bl_entry::keys_are_read;
@@ -39,9 +39,10 @@ pub fn outputs_are_sealed_file_by_file()
 {}
 
 /// The files of a finished output are read by the grammars of tables and blob files: they are in the folder and synced,
-/// the edit names them, and they write what the output was given.
+/// the edit names them, and they write what the output was given. The edit is in bounds.
 pub fn finished_outputs_are_read()
-    ensures { OutputsAreRead }
+    ensures read { OutputsAreRead }
+    ensures fit { OutputsFit }
 {
     index_is_read_again();
     blob_indexes_are_unique();
