@@ -1,4 +1,6 @@
-mod Making
+mod FlushedLemmas
+mod KeptBehind
 mod KeptMore
-mod TakenLemmas
+mod Making
 mod SealedLemmas
+mod TakenLemmas

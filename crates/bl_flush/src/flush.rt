@@ -1,6 +1,6 @@
 //! A flush: the kept entries of a memory go into an output, and its files are sealed.
 
-ghost use Rattle.std.specs.Prelude.{◌≡◌, ◌⊎◌, ℕ, ◌-◌, false, Err, IfOk, IfErr, OnOk, OnErr, IsErrOf};
+ghost use Rattle.std.specs.Prelude.{◌≡◌, ◌⊎◌, ℕ, ◌-◌, ◌^◌, ◌≤◌, false, Err, IfOk, IfErr, OnOk, OnErr, IsErrOf};
 ghost use Rattle.std.specs.List.{range_with_len};
 ghost use Rattle.bl_site.specs.Causes.{Rose};
 ghost use Rattle.bl_site.specs.Quiet.{TellsNothing};
@@ -45,6 +45,14 @@ fn show_range(options: &Options)
     ensures { AreInRange options.now }
 {
     let _threshold = options.min_blob_size;
+}
+
+// The next number is one that there is, or the first that there is not.
+fn show_next(numbers: &Numbers)
+    ensures some { 1 ≤ numbers.now }
+    ensures bound { numbers.now ≤ 10 ^ 15 }
+{
+    let _next = numbers.next();
 }
 
 // The kept entries of a memory are added to a new output, in key order.
@@ -154,6 +162,8 @@ pub fn flush_all<S: Site>(
     flushes_make_what_is_kept();
     ascends(memory);
     show_range(options);
+    show_next(numbers);
     let output = add_kept(alloc, site, numbers, memory, options, snapshots)?;
+    show_next(numbers);
     seal_all(alloc, site, output)
 }
