@@ -2,3 +2,5 @@ mod OrderLemmas
 mod ValueLemmas
 pub mod QuietLemmas
 pub mod AppendLemmas
+pub mod HandLemmas
+pub mod FileLemmas
