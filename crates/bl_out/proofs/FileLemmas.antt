@@ -91,7 +91,7 @@ abbrev pub Same : Disk → Disk → OutFile → Type 0
 Same old new f = new (name_of (name_in f)) ≡ old (name_of (name_in f))
 
 -- the first so many are sealed, and the others hold what was written
-pub HoldsFirst : Disk → ℕ → List OutFile → Type 0
+unfoldable pub HoldsFirst : Disk → ℕ → List OutFile → Type 0
 HoldsFirst disk n fs = AllByRecursion (HoldsSealed disk) (take n fs) × AllByRecursion (HoldsFile disk) (drop n fs)
 
 sealed_on : (old new : Disk) (f : OutFile) → Same old new f → HoldsSealed old f → HoldsSealed new f
@@ -183,7 +183,7 @@ module _ (old new : Disk) (n : ℕ) where
   pub table_changes : (front : List OutTable) (t u : OutTable) (bs : List OutBlob) → n ≤ length front → AllByRecursion (λ x. Same old new (TableOf x)) front → AllByRecursion (λ x. Same old new (BlobOf x)) bs
       → (HoldsFile old (TableOf t) → HoldsFile new (TableOf u)) → HoldsFirst old n (map TableOf (front ++ t ∷ []) ++ map BlobOf bs) → HoldsFirst new n (map TableOf (front ++ u ∷ []) ++ map BlobOf bs)
   table_changes front t u bs le before behind change h =
-      let long : n ≤ length (map TableOf front) = omega (arith, length-map TableOf front) in
+      let long : n ≤ length (map TableOf front) = omega (arith, length-map front TableOf) in
       subst (HoldsFirst new n) (sym (files_split front u bs))
       (one_changes old new n (map TableOf front) (TableOf t) (TableOf u) (map BlobOf bs) long (all_map TableOf (Same old new) front before) (all_map BlobOf (Same old new) bs behind) change
       (subst (HoldsFirst old n) (files_split front t bs) h))
@@ -191,7 +191,7 @@ module _ (old new : Disk) (n : ℕ) where
   pub table_begins : (ts : List OutTable) (u : OutTable) (bs : List OutBlob) → n ≤ length ts → AllByRecursion (λ x. Same old new (TableOf x)) ts → AllByRecursion (λ x. Same old new (BlobOf x)) bs
       → HoldsFile new (TableOf u) → HoldsFirst old n (map TableOf ts ++ map BlobOf bs) → HoldsFirst new n (map TableOf (ts ++ u ∷ []) ++ map BlobOf bs)
   table_begins ts u bs le before behind made h =
-      let long : n ≤ length (map TableOf ts) = omega (arith, length-map TableOf ts) in
+      let long : n ≤ length (map TableOf ts) = omega (arith, length-map ts TableOf) in
       subst (HoldsFirst new n) (sym (files_split ts u bs))
       (one_more_file old new n (map TableOf ts) (TableOf u) (map BlobOf bs) long (all_map TableOf (Same old new) ts before) (all_map BlobOf (Same old new) bs behind) made h)
 
@@ -199,7 +199,7 @@ module _ (old new : Disk) (n : ℕ) where
   all_before ts bs p q = all_both (Same old new) (map TableOf ts) (map BlobOf bs) (all_map TableOf (Same old new) ts p) (all_map BlobOf (Same old new) bs q)
 
   files_length : (ts : List OutTable) (bs : List OutBlob) → n ≤ length ts + length bs → n ≤ length (map TableOf ts ++ map BlobOf bs)
-  files_length ts bs le = omega (arith, length-append (map TableOf ts) (map BlobOf bs), length-map TableOf ts, length-map BlobOf bs)
+  files_length ts bs le = omega (arith, length-append (map TableOf ts) (map BlobOf bs), length-map ts TableOf, length-map bs BlobOf)
 
   pub blob_changes : (ts : List OutTable) (front : List OutBlob) (b c : OutBlob) → n ≤ length ts + length front → AllByRecursion (λ x. Same old new (TableOf x)) ts → AllByRecursion (λ x. Same old new (BlobOf x)) front
       → (HoldsFile old (BlobOf b) → HoldsFile new (BlobOf c)) → HoldsFirst old n (map TableOf ts ++ map BlobOf (front ++ b ∷ [])) → HoldsFirst new n (map TableOf ts ++ map BlobOf (front ++ c ∷ []))

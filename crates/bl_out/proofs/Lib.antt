@@ -4,3 +4,6 @@ pub mod QuietLemmas
 pub mod AppendLemmas
 pub mod HandLemmas
 pub mod FileLemmas
+pub mod BecomeLemmas
+pub mod StepLemmas
+pub mod PartLemmas

@@ -78,7 +78,7 @@ pub record Keeps (old new : State) : Type 0 where
 pub record Acts {S T : Type 0} (g : Ghosts S) (result : Result T JobErr) (old new : State) (site_old site_new : S) : Type 0 where
   pub touches : TouchesOnly g (names_of new.drawn) site_old site_new
   pub tells_nothing : TellsNothing g site_old site_new
-  pub changes : g.changes site_old ≤ g.changes site_new
+  pub changes : (g.changes site_new ≡ g.changes site_old) ⊎ Rose (g.changes site_old) (g.changes site_new)
   pub was_set : old.failed ≡ true → new.failed ≡ true
   pub asked : new.failed ≡ true → (old.failed ≡ true) ⊎ (Rose (g.changes site_old) (g.changes site_new) ⊎ IsErrOf result (Full (10 ^ 15)))
   pub memory : IfErr result (λ e. new.failed ≡ false → e ≡ OutOfMemory)

@@ -117,6 +117,7 @@ impl BlobInHand {
         ensures totals { self.new ≡ record { number = self.old.number; totals = totals } }
         ensures appended { S.shows → OnOk result ((rs : List Record) → self.old.totals ≡ totals_of rs
             → Follows (name_of (Blob self.old.number)) (given rs) (given (rs ++ record { key = key.now; value = value.now } ∷ [])) (S.disk site.old) (S.disk site.new)) }
+        ensures still { S.shows → OnOk result (IsSome (S.disk site.new (name_of (Blob self.old.number)))) }
         ensures certain { S.shows → S.certain site.old → S.certain site.new }
         ensures touches { TouchesOnly S.Site (name_of (Blob self.old.number) ∷ []) site.old site.new }
         ensures asked { Rose (S.changes site.old) (S.changes site.new) }

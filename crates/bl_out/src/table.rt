@@ -155,11 +155,12 @@ impl TableInHand {
         requires there { S.shows → IsSome (S.disk site.old (name_of (Table self.old.number))) }
         ensures spans { OnOk result ((es : List Entry) → Spans es self.old → Spans (es ++ entry.now ∷ []) self.new) }
         ensures appended { S.shows → OnOk result ((es : List Entry) → Spans es self.old → Follows (name_of (Table self.old.number)) (open_bytes es) (open_bytes (es ++ entry.now ∷ [])) (S.disk site.old) (S.disk site.new)) }
+        ensures still { S.shows → OnOk result (IsSome (S.disk site.new (name_of (Table self.old.number)))) }
         ensures number { self.new.number ≡ self.old.number }
         ensures stays { OnErr result (failed.new ≡ false → (self.new ≡ self.old) × (site.new ≡ site.old)) }
         ensures was_set { failed.old ≡ true → failed.new ≡ true }
         ensures asked { failed.new ≡ true → (failed.old ≡ true) ⊎ Rose (S.changes site.old) (S.changes site.new) }
-        ensures changes { S.changes site.old ≤ S.changes site.new }
+        ensures changes { (S.changes site.new ≡ S.changes site.old) ⊎ Rose (S.changes site.old) (S.changes site.new) }
         ensures certain { S.shows → S.certain site.old → S.certain site.new }
         ensures touches { TouchesOnly S.Site (name_of (Table self.old.number) ∷ []) site.old site.new }
         ensures tells_nothing { TellsNothing S.Site site.old site.new }
