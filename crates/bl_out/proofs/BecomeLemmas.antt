@@ -55,7 +55,7 @@ module _ {S : Type 0} (g : Ghosts S) where
 
 -- ---- numbers
 
-on_last_numbers : {A : Type 0} (number : A → ℕ) (f : A → A) → ((x : A) → number (f x) ≡ number x) → (xs : List A) → map number (on_last f xs) ≡ map number xs
+pub on_last_numbers : {A : Type 0} (number : A → ℕ) (f : A → A) → ((x : A) → number (f x) ≡ number x) → (xs : List A) → map number (on_last f xs) ≡ map number xs
 on_last_numbers number f same [] = refl
 on_last_numbers number f same (x ∷ []) = ap (λ n. n ∷ []) (same x)
 on_last_numbers number f same (x ∷ y ∷ xs) = ap (λ ns. number x ∷ ns) (on_last_numbers number f same (y ∷ xs))

@@ -7,4 +7,5 @@ pub mod FileLemmas
 pub mod BecomeLemmas
 pub mod StepLemmas
 pub mod PartLemmas
+pub mod SealLemmas
 pub mod SpansLemmas

@@ -47,18 +47,18 @@ hand_number s h is d = some_of s.table h (λ k. IsNumber k.number) is (number_in
 pub blob_number : (s : State) (h : BlobHand) → s.blob ≡ Some h → AreDrawn s → IsNumber h.number
 blob_number s h is d = some_of s.blob h (λ k. IsNumber k.number) is (number_in (λ (k : BlobHand). k.number) s.drawn s.blob d.numbers d.blob)
 
-tables_at_least : (ts : List OutTable) (ns : List NewTable) (h : Option Hand) → AreTables ts ns h → length ns ≤ length ts
+pub tables_at_least : (ts : List OutTable) (ns : List NewTable) (h : Option Hand) → AreTables ts ns h → length ns ≤ length ts
 tables_at_least ts [] h a = omega arith
 tables_at_least [] (n ∷ ns) h a = absurd a
 tables_at_least (t ∷ ts) (n ∷ ns) h a = let less = tables_at_least ts ns h a.1 in omega arith
 
 -- ---- what the files hold
 
-first_holds : (disk : Disk) (o : Out) → HoldsOut disk o → HoldsFirst disk o.sealed (files_of o)
+pub first_holds : (disk : Disk) (o : Out) → HoldsOut disk o → HoldsFirst disk o.sealed (files_of o)
 unfolding HoldsFirst
 first_holds disk o h = (h.sealed, h.others)
 
-holds_first : (disk : Disk) (o : Out) → HoldsFirst disk o.sealed (files_of o) → HoldsOut disk o
+pub holds_first : (disk : Disk) (o : Out) → HoldsFirst disk o.sealed (files_of o) → HoldsOut disk o
 unfolding HoldsFirst
 holds_first disk o h = record { sealed = h.0; others = h.1 }
 

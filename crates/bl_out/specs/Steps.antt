@@ -1,14 +1,17 @@
 -- The parts of which taking an entry is made.
-use Rattle.std.specs.Prelude.{◌≡◌, ◌⊎◌, ℕ, ◌+◌, ◌^◌, ◌≤◌, nat_le, not, Bool, true, false, List, [], ◌∷◌, ◌++◌, length, Result, IfErr, IsErrOf, if◌then◌else◌}
+use Rattle.std.specs.Prelude.{◌≡◌, ◌⊎◌, ℕ, ◌+◌, ◌^◌, ◌≤◌, nat_le, not, Bool, true, false, List, [], ◌∷◌, ◌++◌, length, Result, IfErr, IsErrOf, IsSomeAnd, if◌then◌else◌}
 use Rattle.bl_site.specs.Causes.{Rose}
+use Rattle.bl_site.specs.Disk.{Name}
 use Rattle.bl_site.specs.Quiet.{TellsNothing}
 use Rattle.bl_site.specs.declared.site.Site.{Ghosts}
 use Rattle.bl_entry.specs.declared.key.Entry.{Entry}
 use Rattle.bl_entry.specs.Entries.{last_of}
 use Rattle.bl_index.specs.declared.index.BlobIndex.{BlobIndex}
 use Rattle.bl_edit.specs.Options.{Values}
+use Rattle.bl_names.specs.Names.{name_of}
 use Rattle.bl_out.specs.Causes.{IsAddCause}
-use Rattle.bl_out.specs.Outputs.{Out, OutBlob, close_blob, close_table, entry_behind, new_blob, new_table, on_last, passes, put_entry, put_record, record_of}
+use Rattle.bl_out.specs.Held.{name_in}
+use Rattle.bl_out.specs.Outputs.{Out, OutBlob, close_blob, close_table, entry_behind, new_blob, new_table, next_file, on_last, passes, put_entry, put_record, record_of}
 use Rattle.bl_out.specs.Quiet.{TouchesOnly}
 use Rattle.bl_out.specs.States.{BlobHand, State, names_of}
 use Rattle.bl_out.specs.declared.error.JobErr.{JobErr}
@@ -65,6 +68,14 @@ with_large next e o =
 -- the index of an entry's value, as the next record of the blob file in hand
 abbrev pub index_at : BlobHand → Entry → BlobIndex
 index_at h e = record { file = h.number; offset = 30 + h.totals.bytes + 32 + length e.key.user; size = length e.value }
+
+-- its next file is sealed
+abbrev pub sealed_one : Out → Out
+sealed_one o = record o { sealed = o.sealed + 1 }
+
+-- the file that is sealed next has this name
+abbrev pub IsNext : Name → Out → Type 0
+IsNext name o = IsSomeAnd (next_file o) (λ f. name ≡ name_of (name_in f))
 
 -- ---- what a part of a call does
 

@@ -7,9 +7,9 @@ ghost use Rattle.bl_blob.specs.BlobFile.{IsRecord};
 ghost use Rattle.bl_names.specs.Names.{IsNumber};
 ghost use Rattle.bl_entry.specs.Entries.{IsProper};
 ghost use Rattle.bl_out.specs.Causes.{IsAddCause, IsSealCause};
-ghost use Rattle.bl_out.specs.Outputs.{Out, IsSealedAs, added, begins_table, begun, made_for, next_file, record_of, sealed_next};
+ghost use Rattle.bl_out.specs.Outputs.{Out, added, begins_table, begun, made_for, record_of};
 ghost use Rattle.bl_out.specs.Quiet.{TouchesOnly};
-ghost use Rattle.bl_out.specs.States.{AreFilled, AreThere, Becomes, BlobHand, Draws, IsOut, Refuses, Stays, names_of};
+ghost use Rattle.bl_out.specs.States.{AreThere, Becomes, BlobHand, Draws, IsOut, Refuses, Stays, names_of};
 ghost use Rattle.bl_out.specs.Steps.{Acts, Keeps, closed_blob, closed_last, index_at, with_blob_room, with_entry, with_large, with_room, with_table, with_value};
 ghost use Rattle.bl_out.specs.Written.{is_large, reference_to};
 ghost use Rattle.bl_out.specs.declared.error.JobErr.TheVariants.{Disk, Full, OutOfMemory};
@@ -19,7 +19,6 @@ use crate::blob::BlobInHand;
 use crate::error::JobErr;
 use crate::make::create;
 use crate::numbers::{END, Numbers};
-use crate::sealed::Sealed;
 use crate::table::TableInHand;
 use bl_code::Octets;
 use bl_edit::{BlobAddition, NewTable, Options};
@@ -34,20 +33,20 @@ use std::marker::Model;
 /// the closed files, and the writers of those in hand.
 #[derive(Drop)]
 pub struct Output {
-    options: Options,
-    one_table: bool,
-    tables: Vec<NewTable>,
-    table: Option<TableInHand>,
-    blobs: Vec<BlobAddition>,
-    blob: Option<BlobInHand>,
-    drawn: Vec<u64>,
-    sealed: usize,
+    pub(crate) options: Options,
+    pub(crate) one_table: bool,
+    pub(crate) tables: Vec<NewTable>,
+    pub(crate) table: Option<TableInHand>,
+    pub(crate) blobs: Vec<BlobAddition>,
+    pub(crate) blob: Option<BlobInHand>,
+    pub(crate) drawn: Vec<u64>,
+    pub(crate) sealed: usize,
     // A call that asks the folder counts as failed until it is done.
-    failed: bool,
+    pub(crate) failed: bool,
 }
 
 impl Model for Output {
-    ghost use Rattle.std.specs.Prelude.{◌≡◌, ◌≤◌, IfSome, false};
+    ghost use Rattle.std.specs.Prelude.{◌≡◌, ◌+◌, ◌≤◌, length, IfSome, false};
     ghost use Rattle.bl_out.specs.States.{AreDrawn, State};
 
     ghost Value = { State };
@@ -65,7 +64,7 @@ impl Model for Output {
     } };
 
     ghost invariant = { λ o. AreDrawn (record { options = o.options; one_table = o.one_table; tables = o.tables.items; table = o.table; blobs = o.blobs.items; blob = o.blob; drawn = o.drawn.items; sealed = o.sealed; failed = o.failed })
-      × (o.failed ≡ false → IfSome o.blob (λ b. 1 ≤ b.totals.count)) };
+      × (o.failed ≡ false → IfSome o.blob (λ b. 1 ≤ b.totals.count) × IfSome o.table (λ h. o.sealed ≤ length o.tables.items) × (o.sealed ≤ length o.tables.items + length o.blobs.items)) };
 }
 
 // Whether the entry's value goes to a blob file.
@@ -160,28 +159,6 @@ impl Output {
         Ok(())
     }
 
-    /// Seals the next file, the tables by number and then the blob files: it is closed and synced. `None` exactly where all are
-    /// sealed; then nothing has changed. No call has failed, and those that are not sealed are in the folder.
-    ///
-    /// Errors: `Disk` and `OutOfMemory`. After each it has failed, except where memory ran out before the folder was asked: then
-    /// all is as before.
-    pub fn seal<S: Site>(&mut self, alloc: Global, site: &mut S) -> Result<Option<Sealed>, JobErr>
-        requires usable { self.old.failed ≡ false }
-        requires there { S.shows → AreThere (S.disk site.old) self.old }
-        ensures sealed { (next : ℕ) → OnOk result (Becomes S.Site next sealed_next self.old self.new site.old site.new) }
-        ensures usable { OnOk result (self.new.failed ≡ false) }
-        ensures named { (o : Out) → IsOut o self.old → AreFilled o → IfOk result (IsSealedAs (next_file o)) }
-        ensures none { result ≡ Ok None → (self.new ≡ self.old) × (site.new ≡ site.old) }
-        ensures drawn { self.new.drawn ≡ self.old.drawn }
-        ensures refused { IfErr result (λ e. Refuses S.Site e self.old self.new 0 0 site.old site.new) }
-        ensures touches { TouchesOnly S.Site (names_of self.new.drawn) site.old site.new }
-        ensures tells_nothing { TellsNothing S.Site site.old site.new }
-        ensures causes { IfErr result IsSealCause }
-        ensures disk { IsErrOf result Disk → Rose (S.disk_faults site.old) (S.disk_faults site.new) }
-    {
-        Err(JobErr::OutOfMemory)
-    }
-
     /// The numbers of the files that it has made, in the order in which they were drawn.
     ///
     /// Errors: `OutOfMemory` alone.
@@ -250,11 +227,12 @@ impl Output {
 
     // The table in hand is closed, if there is one: the rest of its bytes follows in its file, which is in the folder. No more
     // tables are sealed than are closed.
-    fn close_table<S: Site>(&mut self, alloc: Global, site: &mut S) -> Result<(), JobErr>
+    pub(crate) fn close_table<S: Site>(&mut self, alloc: Global, site: &mut S) -> Result<(), JobErr>
         requires sealed { self.old.sealed ≤ length self.old.tables }
         requires there { S.shows → AreThere (S.disk site.old) self.old }
         ensures becomes { (next : ℕ) → OnOk result (Becomes S.Site next closed_last self.old self.new site.old site.new) }
         ensures hand { OnOk result (self.new.table ≡ None) }
+        ensures count { OnOk result (IsSome self.old.table → length self.old.tables < length self.new.tables) }
         ensures keeps { Keeps self.old self.new }
         ensures blob { self.new.blob ≡ self.old.blob }
         ensures drawn { self.new.drawn ≡ self.old.drawn }
@@ -453,12 +431,13 @@ impl Output {
 
     // The blob file in hand is closed, if there is one: the footer follows in its file, which is in the folder. It has some
     // record, and it is not sealed.
-    fn close_blob<S: Site>(&mut self, site: &mut S) -> Result<(), JobErr>
+    pub(crate) fn close_blob<S: Site>(&mut self, site: &mut S) -> Result<(), JobErr>
         requires sealed { self.old.sealed ≤ length self.old.tables + length self.old.blobs }
         requires filled { IfSome self.old.blob (λ b. 1 ≤ b.totals.count) }
         requires there { S.shows → AreThere (S.disk site.old) self.old }
         ensures becomes { (next : ℕ) → IsSome self.old.blob → OnOk result (Becomes S.Site next closed_blob self.old self.new site.old site.new) }
         ensures hand { OnOk result (self.new.blob ≡ None) }
+        ensures count { OnOk result (IsSome self.old.blob → length self.old.blobs < length self.new.blobs) }
         ensures filled { IfSome self.new.blob (λ b. 1 ≤ b.totals.count) }
         ensures keeps { Keeps self.old self.new }
         ensures table { self.new.table ≡ self.old.table }
