@@ -1,5 +1,5 @@
 -- What becomes of an output where a file is sealed.
-use Rattle.std.proofs.Common.{◌≡◌, ◌≢◌, ℕ, zero, suc, ◌+◌, ◌-◌, ◌<◌, ◌≤◌, Bool, true, false, List, [], ◌∷◌, ◌++◌, length, take, drop, refl, sym, ◌∙◌, ap, subst, arith, inl, inr, ⊎_elim, Option, Some, None, append_assoc, append-nil, length-append}
+use Rattle.std.proofs.Common.{◌≡◌, ◌≢◌, ℕ, zero, suc, ◌+◌, ◌-◌, ◌<◌, ◌≤◌, Bool, true, false, List, [], ◌∷◌, ◌++◌, length, get_or, take, drop, refl, sym, ◌∙◌, ap, subst, arith, inl, inr, ⊎_elim, Option, Some, None, append_assoc, append-nil, length-append}
 use Rattle.std.specs.Prelude.{Decides, ◌⊎◌, map, nat_le, nat_lt, slice_get, IfSome, IsSome, IsSomeAnd, is_some, Contains, if◌then◌else◌}
 use Rattle.std.specs.List.{AllByRecursion}
 use Rattle.std.proofs.lemmas.Bool.{false≢true}
@@ -19,9 +19,10 @@ use Rattle.bl_out.specs.Held.{HoldsFile, HoldsOut, HoldsSealed, bytes_in, name_i
 use Rattle.bl_out.specs.Outputs.{NamesTable, Out, OutBlob, OutFile, OutTable, TableOf, BlobOf, IsSealedAs, addition_of, close_blob, close_table, files_of, next_file, on_last, on_place, sealed_next}
 use Rattle.bl_out.specs.declared.sealed.Sealed.{Sealed}
 use Rattle.bl_out.specs.declared.sealed.Sealed.TheVariants as sealed
-use Rattle.bl_out.specs.States.{AreBlobs, AreFilled, AreTables, AreThere, AscendTo, Becomes, BlobHand, Hand, IsBlobClosedAs, IsClosedAs, IsOrdered, IsOut, State}
+use Rattle.bl_out.specs.Quiet.{IsNoneOf}
+use Rattle.bl_out.specs.States.{AreBlobs, AreDrawn, AreFilled, AreTables, AreThere, AscendTo, Becomes, BlobHand, Hand, IsBlobClosedAs, IsClosedAs, IsOrdered, IsOut, State, names_of}
 use Rattle.bl_out.specs.Steps.{IsNext, closed_blob, closed_last, sealed_one}
-use Rattle.bl_out.proofs.BecomeLemmas.{becomes_as, becomes_same, becomes_then, on_last_numbers, ordered_closed}
+use Rattle.bl_out.proofs.BecomeLemmas.{all_at, becomes_as, becomes_same, becomes_then, not_blob, not_table, on_last_numbers, ordered_closed}
 use Rattle.bl_out.proofs.HandLemmas.{blobs_count, ends_in_blob, ends_in_table, tables_count}
 use Rattle.bl_out.proofs.FileLemmas.{HoldsFirst, all_to, some_is, still_there}
 use Rattle.bl_out.proofs.StepLemmas.{first_holds, holds_first, tables_at_least, there_on}
@@ -289,6 +290,7 @@ module _ (o : Out) (s : State) (is : IsOut o s) where
   count_files = omega (arith, length-append (map TableOf o.tables) (map BlobOf o.blobs), length-map o.tables TableOf, length-map o.blobs BlobOf)
 
   next_tables : (ts : List OutTable) → o.sealed < length o.tables → on_place close_table o.sealed o.tables ≡ ts → sealed_next o ≡ record o { sealed = o.sealed + 1; tables = ts }
+  unfolding next_by
   next_tables ts less same =
       let within : nat_lt o.sealed (length (files_of o)) ≡ true = is_less o.sealed (length (files_of o)) (omega (arith, count_files)) in
       let before : nat_le (length o.tables) o.sealed ≡ false = not_most (length o.tables) o.sealed less in
@@ -296,6 +298,7 @@ module _ (o : Out) (s : State) (is : IsOut o s) where
 
   next_blobs : (ts : List OutTable) (bs : List OutBlob) → length o.tables ≤ o.sealed → o.sealed < length o.tables + length o.blobs → on_place close_blob (o.sealed - length o.tables) o.blobs ≡ bs
       → sealed_next o ≡ record o { sealed = o.sealed + 1; blobs = bs }
+  unfolding next_by
   next_blobs ts bs le less same =
       let within : nat_lt o.sealed (length (files_of o)) ≡ true = is_less o.sealed (length (files_of o)) (omega (arith, count_files)) in
       let behind : nat_le (length o.tables) o.sealed ≡ true = is_most (length o.tables) o.sealed le in
@@ -329,6 +332,7 @@ module _ (o : Out) (s : State) (is : IsOut o s) where
       omega (arith, is.sealed, count_files)
 
   pub none_next : s.table ≡ None → s.blob ≡ None → s.sealed ≡ length s.tables + length s.blobs → sealed_next o ≡ o
+  unfolding next_by
   none_next none no_blob all =
       let beyond : nat_lt o.sealed (length (files_of o)) ≡ false = not_less o.sealed (length (files_of o)) (none_left none no_blob all) in
       λ i. next_by (beyond i) (nat_le (length o.tables) o.sealed) o
@@ -363,3 +367,15 @@ module _ {S : Type 0} (g : Ghosts S) (next : ℕ) (a : State) where
 
   pub seals_none : (s : S) → a.table ≡ None → a.blob ≡ None → a.sealed ≡ length a.tables + length a.blobs → Becomes g next sealed_next a a s s
   seals_none s none no_blob all = becomes_as g next (λ o. o) sealed_next a a s s (λ o is. as_next o (sealed_next o) (none_next o a is none no_blob all)) (becomes_same g next a s)
+
+-- ---- closed files are among those drawn
+
+pub closed_among : (s : State) (n : NewTable) (k : ℕ) → AreDrawn s → k < length s.tables → n ≡ get_or s.tables k n → (name : Name) → name ≡ name_of (Table n.number) → (other : Name) → IsNoneOf (names_of s.drawn) other → IsNoneOf (name ∷ []) other
+closed_among s n k d less is name same other none =
+    let among : Contains s.drawn n.number = all_at (λ (t : NewTable). Contains s.drawn t.number) s.tables n d.tables (k, less, sym is) in
+    subst (λ (m : Name). IsNoneOf (m ∷ []) other) (sym same) (not_table s.drawn n.number among other none)
+
+pub closed_blob_among : (s : State) (n : BlobAddition) (k : ℕ) → AreDrawn s → k < length s.blobs → n ≡ get_or s.blobs k n → (name : Name) → name ≡ name_of (Blob n.number) → (other : Name) → IsNoneOf (names_of s.drawn) other → IsNoneOf (name ∷ []) other
+closed_blob_among s n k d less is name same other none =
+    let among : Contains s.drawn n.number = all_at (λ (t : BlobAddition). Contains s.drawn t.number) s.blobs n d.blobs (k, less, sym is) in
+    subst (λ (m : Name). IsNoneOf (m ∷ []) other) (sym same) (not_blob s.drawn n.number among other none)
