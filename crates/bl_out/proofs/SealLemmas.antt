@@ -1,6 +1,6 @@
 -- What becomes of an output where a file is sealed.
 use Rattle.std.proofs.Common.{◌≡◌, ◌≢◌, ℕ, zero, suc, ◌+◌, ◌-◌, ◌<◌, ◌≤◌, Bool, true, false, List, [], ◌∷◌, ◌++◌, length, get_or, take, drop, refl, sym, ◌∙◌, ap, subst, arith, inl, inr, ⊎_elim, Option, Some, None, append_assoc, append-nil, length-append}
-use Rattle.std.specs.Prelude.{Decides, ◌⊎◌, map, nat_le, nat_lt, slice_get, IfSome, IsSome, IsSomeAnd, is_some, Contains, if◌then◌else◌}
+use Rattle.std.specs.Prelude.{Decides, ◌⊎◌, map, nat_le, nat_lt, slice_get, IfSome, IsSome, IsSomeAnd, is_some, Contains, Result, Ok, Err, IfOk, if◌then◌else◌}
 use Rattle.std.specs.List.{AllByRecursion}
 use Rattle.std.proofs.lemmas.Bool.{false≢true}
 use Rattle.std.proofs.lemmas.List.{length-map}
@@ -379,3 +379,8 @@ pub closed_blob_among : (s : State) (n : BlobAddition) (k : ℕ) → AreDrawn s 
 closed_blob_among s n k d less is name same other none =
     let among : Contains s.drawn n.number = all_at (λ (t : BlobAddition). Contains s.drawn t.number) s.blobs n d.blobs (k, less, sym is) in
     subst (λ (m : Name). IsNoneOf (m ∷ []) other) (sym same) (not_blob s.drawn n.number among other none)
+
+-- what holds at Ok
+pub ok_to : {T E : Type 0} (r : Result T E) (P Q : T → Type 0) → ((x : T) → P x → Q x) → IfOk r P → IfOk r Q
+ok_to (Ok x) P Q f p = f x p
+ok_to (Err e) P Q f p = tt

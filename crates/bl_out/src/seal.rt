@@ -98,6 +98,7 @@ impl Output {
         ensures some { IfOk result IsSome }
         ensures same { OnOk result (self.new ≡ record self.old { sealed = self.old.sealed + 1; failed = true }) }
         ensures err { OnErr result (self.new ≡ record self.old { failed = self.new.failed }) }
+        ensures drawn { self.new.drawn ≡ self.old.drawn }
         ensures stays { self.new.failed ≡ false → (self.new ≡ self.old) × (site.new ≡ site.old) }
         ensures acts { Acts S.Site result self.old self.new site.old site.new }
         ensures causes { IfErr result IsSealCause }
@@ -145,6 +146,7 @@ impl Output {
         ensures some { IfOk result IsSome }
         ensures same { OnOk result (self.new ≡ record self.old { sealed = self.old.sealed + 1; failed = true }) }
         ensures err { OnErr result (self.new ≡ record self.old { failed = self.new.failed }) }
+        ensures drawn { self.new.drawn ≡ self.old.drawn }
         ensures stays { self.new.failed ≡ false → (self.new ≡ self.old) × (site.new ≡ site.old) }
         ensures acts { Acts S.Site result self.old self.new site.old site.new }
         ensures causes { IfErr result IsSealCause }
