@@ -7,3 +7,4 @@ pub mod FileLemmas
 pub mod BecomeLemmas
 pub mod StepLemmas
 pub mod PartLemmas
+pub mod AddLemmas

@@ -78,10 +78,18 @@ fn is_large(options: &Options, entry: &Entry) -> bool
     }
 }
 
+// The user key of an entry.
+fn user_of(entry: &Entry) -> &[u8]
+    ensures { result.now ≡ entry.now.key.user }
+{
+    entry.key.user.as_slice()
+}
+
 // The entry with this index in the place of its value.
 fn referring(alloc: Global, entry: &Entry, index: &BlobIndex) -> Result<Entry, JobErr>
     requires proper { IsProper entry.now }
     requires file { IsNumber index.now.file }
+    requires place { (index.now.offset < 2 ^ 63) × (index.now.size < 2 ^ 63) }
     ensures entry { IfOk result (λ w. w ≡ reference_to index.now entry.now) }
     ensures proper { IfOk result IsProper }
     ensures memory { IfErr result (λ e. e ≡ OutOfMemory) }
@@ -419,7 +427,7 @@ impl Output {
         let Some(hand) = &mut self.blob else {
             unreachable!()
         };
-        let (key, value) = (entry.key.user.as_slice(), entry.value.as_slice());
+        let (key, value) = (user_of(entry), entry.value.as_slice());
         let Some(totals) = hand.totals_behind(key.len(), value.len()) else {
             return Err(JobErr::OutOfMemory);
         };
