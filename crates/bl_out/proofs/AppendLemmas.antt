@@ -1,5 +1,5 @@
 -- Bytes that follow in a file.
-use Rattle.std.proofs.Common.{◌≡◌, ℕ, Bool, true, false, List, [], ◌∷◌, ◌++◌, length, refl, sym, ◌∙◌, ap, subst, arith, suc, append_assoc, append-nil, Option, None, Some, Result, Ok, Err, OnOk}
+use Rattle.std.proofs.Common.{◌≡◌, ℕ, Bool, false, List, [], ◌∷◌, ◌++◌, length, refl, sym, ◌∙◌, ap, subst, arith, suc, append_assoc, append-nil, Option, None, Some, Result, Ok, Err, OnOk}
 use Rattle.std.specs.Prelude.{IsSome, ◌==◌, flat_map, if◌then◌else◌}
 use Rattle.std.specs.Option.{is_some}
 use Rattle.std.proofs.lemmas.Bool.{false≢true}
@@ -9,10 +9,8 @@ use Rattle.bl_site.specs.Disk.{Disk, File, Name}
 use Rattle.bl_site.specs.Calls.{Appends}
 use Rattle.bl_blob.specs.BlobFile.{Record, given, header, record_bytes, record_head, totals_of}
 use Rattle.bl_blob.specs.declared.blob.Totals.{Totals}
+use Rattle.bl_entry.proofs.ItemLemmas.{some_is}
 use Rattle.bl_out.specs.Making.{Follows}
-
-some_is : {A : Type 0} {x y : A} → Some x ≡ Some y → x ≡ y
-some_is e = cc
 
 -- the file is still there
 pub there_behind : (name : Name) (bytes : List ℕ) (old new : Disk) → Appends name bytes bytes old new → IsSome (new name)

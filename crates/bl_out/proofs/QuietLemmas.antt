@@ -13,13 +13,14 @@ use Rattle.bl_site.specs.declared.site.SiteErr.TheVariants.{DiskFailed, OutOfMem
 use Rattle.bl_site.proofs.Moments.{certain_call, cut_of_only, joins, name_call, started, widened}
 use Rattle.bl_out.specs.Quiet.{IsCutBut, IsNoneOf, TouchesOnly}
 
--- the names of which nothing is said stay as they are
+-- the files of all other names are as they were
 abbrev pub OthersStay : List Name → Disk → Disk → Type 0
 OthersStay names old new = (name : Name) → IsNoneOf names name → new name ≡ old name
 
 pub not_the_one : (name other : Name) → IsNoneOf (name ∷ []) other → other ≢ name
 not_the_one name other n = λ same. n.0 (sym same)
 
+-- what a cut leaves of the new disk, it leaves of the old one
 pub elsewhere : (names : List Name) (old new : Disk) (told : List ℕ) (c : Cut) → OthersStay names old new → IsCutBut names new told c → IsCutBut names old told c
 elsewhere names old new told c others cut = record {
   image = λ name n. subst (λ o. IsLeft o (c.folder name)) (others name n) (cut.image name n);
@@ -27,6 +28,7 @@ elsewhere names old new told c others cut = record {
   written_is = λ name n. cut.written_is name n ∙ ap (option_map (λ (x : File). x.front ++ x.handed)) (others name n);
 }
 
+-- a cut of the whole disk
 pub of_cut : (names : List Name) (disk : Disk) (told : List ℕ) (c : Cut) → IsCut disk told c → IsCutBut names disk told c
 of_cut names disk told c cut = record { image = λ name n. cut.image name; told_is = cut.told_is; written_is = λ name n. cut.written_is name }
 
@@ -81,7 +83,7 @@ module _ {S : Type 0} (g : Ghosts S) where
   pub touches_nothing : (names : List Name) (site : S) → (g.shows → IsOnly site) → (g.shows → IsNow site) → TouchesOnly g names site site
   touches_nothing names site only now = record { others = λ shown name n. refl; cuts = λ shown sure. before_all names site sure (only shown) (now shown) }
 
-  -- one call that no name call in doubt follows
+  -- one call behind which no name call is in doubt
   pub touches_once : (names : List Name) (old new : S) → (g.shows → OthersStay names (g.disk old) (g.disk new)) → (g.shows → g.certain old → g.certain new) → (g.shows → g.told new ≡ g.told old)
       → (g.shows → Elapses (g.clock old) (g.clock new) (g.left_since old) (g.left_since new) (MayLeave (g.may_be new) (g.told new)))
       → (g.shows → IsOnly old) → (g.shows → IsOnly new) → (g.shows → IsNow old) → TouchesOnly g names old new

@@ -210,12 +210,12 @@ on_place f (suc place) (x ∷ xs) = x ∷ on_place f place xs
 -- the next file is closed, if it was not, and sealed; where there is none nothing changes
 abbrev pub sealed_next : Out → Out
 sealed_next o = if nat_lt o.sealed (length (files_of o))
-  then record o {
-    sealed = o.sealed + 1;
-    tables = on_place close_table o.sealed o.tables;
-    blobs = if nat_le (length o.tables) o.sealed then on_place close_blob (o.sealed - length o.tables) o.blobs else o.blobs;
-  }
-  else o
+    then record o {
+      sealed = o.sealed + 1;
+      tables = on_place close_table o.sealed o.tables;
+      blobs = if nat_le (length o.tables) o.sealed then on_place close_blob (o.sealed - length o.tables) o.blobs else o.blobs;
+    }
+    else o
 
 -- all files are closed and sealed
 abbrev pub finished : Out → Out

@@ -31,12 +31,7 @@ pub(crate) fn append<S: Site>(site: &mut S, name: &str, bytes: &[u8]) -> Result<
 }
 
 // Two pieces follow, one behind the other.
-fn append_two<S: Site>(
-    site: &mut S,
-    name: &str,
-    first: &[u8],
-    second: &[u8],
-) -> Result<(), JobErr>
+fn append_two<S: Site>(site: &mut S, name: &str, first: &[u8], second: &[u8]) -> Result<(), JobErr>
     requires { S.shows → IsSome (S.disk site.old name.now) }
     ensures appended { S.shows → OnOk result (Appends name.now (first.now ++ second.now) (first.now ++ second.now) (S.disk site.old) (S.disk site.new)) }
     ensures certain { S.shows → S.certain site.old → S.certain site.new }
@@ -51,12 +46,7 @@ fn append_two<S: Site>(
 }
 
 // The header follows, if it is the first record, and the head of a record.
-fn append_head<S: Site>(
-    site: &mut S,
-    name: &str,
-    is_first: bool,
-    head: &[u8],
-) -> Result<(), JobErr>
+fn append_head<S: Site>(site: &mut S, name: &str, is_first: bool, head: &[u8]) -> Result<(), JobErr>
     requires { S.shows → IsSome (S.disk site.old name.now) }
     ensures appended { S.shows → (bytes : List ℕ) → bytes ≡ (if is_first then header else []) ++ head.now → OnOk result (Appends name.now bytes bytes (S.disk site.old) (S.disk site.new)) }
     ensures certain { S.shows → S.certain site.old → S.certain site.new }

@@ -1,14 +1,18 @@
 //! The table that is written now.
 
-ghost use Rattle.std.specs.Prelude.{◌≡◌, ℕ, ◌⊎◌, List, [], ◌∷◌, ◌++◌, length, Option, Some, Err, true, false, ◌≤◌, IfOk, IfErr, IsErrOf, IsSome, OnErr, OnOk};
+ghost use Rattle.std.specs.Prelude.{◌≡◌, ℕ, ◌⊎◌, List, [], ◌∷◌, ◌++◌, length, min, max, Option, None, Some, Err, true, false, ◌≤◌, IfOk, IfErr, IsErrOf, IsSome, MatchOption, OnErr, OnOk};
+ghost use Rattle.std.specs.List.{cons_option};
 ghost use Rattle.bl_names.specs.Names.{IsNumber, name_of};
 ghost use Rattle.bl_names.specs.declared.name.FileName.TheVariants.{Table};
 ghost use Rattle.bl_table.specs.Spelling.{table};
 ghost use Rattle.bl_entry.specs.declared.key.Entry.{Entry};
+ghost use Rattle.bl_code.specs.Order.{same_bytes};
+ghost use Rattle.bl_entry.specs.Keys.{Key, key_bytes};
 ghost use Rattle.bl_entry.specs.Entries.{IsProper, last_of};
 ghost use Rattle.bl_site.specs.Causes.{Rose};
 ghost use Rattle.bl_site.specs.Quiet.{TellsNothing};
 ghost use Rattle.bl_out.specs.Outputs.{OutTable, close_table, is_of_other, items_of, open_bytes, open_size};
+ghost use Rattle.bl_out.specs.Tables.{least_of};
 ghost use Rattle.bl_out.specs.States.{IsClosedAs, IsHandOf, Spans, oldest_in};
 ghost use Rattle.bl_out.specs.declared.error.JobErr.TheVariants.{Disk, OutOfMemory};
 ghost use Rattle.bl_out.specs.Causes.{IsSealCause};
@@ -91,6 +95,81 @@ fn sequence_of(entry: &Entry) -> u64
     entry.key.seq
 }
 
+// The lesser of two numbers, where there are both.
+fn lesser(a: Option<u64>, b: Option<u64>) -> Option<u64>
+    ensures { result ≡ least_of (cons_option a (cons_option b [])) }
+{
+    match (a, b) {
+        (Some(a), Some(b)) => Some(a.min(b)),
+        (Some(a), None) => Some(a),
+        (None, b) => b,
+    }
+}
+
+// The ends of one entry, of this key and this sequence, where there are none so far.
+fn first_ends(
+    alloc: Global,
+    so_far: &Option<Ends>,
+    key: &[u8],
+    sequence: u64,
+) -> Result<Option<Ends>, JobErr>
+    ensures first { IfOk result (λ first. so_far.now ≡ None → first ≡ Some (record { smallest = key.now; largest = key.now; least = sequence; most = sequence })) }
+    ensures memory { IfErr result (λ e. e ≡ OutOfMemory) }
+{
+    if so_far.is_some() {
+        return Ok(None);
+    }
+    Ok(Some(Ends {
+        smallest: Octets::from_slice(alloc, key)?,
+        largest: Octets::from_slice(alloc, key)?,
+        least: sequence,
+        most: sequence,
+    }))
+}
+
+// The ends with one entry more, of this key and this sequence. It takes no memory.
+fn widen(so_far: Option<Ends>, first: Option<Ends>, key: Octets, sequence: u64) -> Option<Ends>
+    ensures { MatchOption so_far (result ≡ first) (λ ends. result ≡ Some (record { smallest = ends.smallest; largest = key; least = min ends.least sequence; most = max ends.most sequence })) }
+{
+    match so_far {
+        None => first,
+        Some(ends) => Some(Ends {
+            smallest: ends.smallest,
+            largest: key,
+            least: ends.least.min(sequence),
+            most: ends.most.max(sequence),
+        }),
+    }
+}
+
+// A copy of the ends; where there are none, empty keys and 0.
+fn copy_of(alloc: Global, ends: &Option<Ends>) -> Result<Ends, JobErr>
+    ensures copy { IfOk result (λ copy. MatchOption ends.now (copy ≡ record { smallest = []; largest = []; least = 0; most = 0 }) (λ e. copy ≡ e)) }
+    ensures memory { IfErr result (λ e. e ≡ OutOfMemory) }
+{
+    match ends {
+        None => Ok(Ends {
+            smallest: Octets::from_vec(Vec::new(alloc)),
+            largest: Octets::from_vec(Vec::new(alloc)),
+            least: 0,
+            most: 0,
+        }),
+        Some(ends) => Ok(Ends {
+            smallest: Octets::from_slice(alloc, ends.smallest.as_slice())?,
+            largest: Octets::from_slice(alloc, ends.largest.as_slice())?,
+            least: ends.least,
+            most: ends.most,
+        }),
+    }
+}
+
+// Whether these are the bytes of a key of this user key.
+fn is_of_user(key: &[u8], user: &[u8]) -> bool
+    ensures { (k : Key) → key.now ≡ key_bytes k → result ≡ same_bytes k.user user.now }
+{
+    key.len() == user.len() + 8 && key.starts_with(user)
+}
+
 impl TableInHand {
     /// The table of this number, without an entry.
     ///
@@ -134,9 +213,12 @@ impl TableInHand {
             return Err(JobErr::OutOfMemory);
         }
         let key = encode_key(alloc, &entry.key)?;
-        // TODO(hands): the copy of the first key before the builder takes the entry
+        let sequence = sequence_of(entry);
+        let first = first_ends(alloc, &self.ends, key.as_slice(), sequence)?;
         let bytes = self.builder.add(key.as_slice(), entry.value.as_slice())?;
         self.written += bytes.as_slice().len() as u64;
+        self.ends = widen(self.ends.take(), first, key, sequence);
+        self.oldest = lesser(self.oldest, file_of(entry));
         Ok(bytes)
     }
 
@@ -190,10 +272,7 @@ impl TableInHand {
         let user = entry.key.user.as_slice();
         match &self.ends {
             None => false,
-            Some(ends) => {
-                let largest = ends.largest.as_slice();
-                !(largest.len() == user.len() + 8 && largest.starts_with(user))
-            }
+            Some(ends) => !is_of_user(ends.largest.as_slice(), user),
         }
     }
 
@@ -207,7 +286,23 @@ impl TableInHand {
         ensures same { self.new ≡ self.old }
         ensures memory { IfErr result (λ e. e ≡ OutOfMemory) }
     {
-        // TODO(hands)
-        Err(JobErr::OutOfMemory)
+        let rest = self.builder.finish()?;
+        let left = rest.as_slice().len() as u64;
+        if left > u64::MAX - self.written {
+            return Err(JobErr::OutOfMemory);
+        }
+        let size = self.written + left;
+        let ends = copy_of(alloc, &self.ends)?;
+        let named = NewTable {
+            level: 0,
+            number: self.number,
+            size,
+            smallest: ends.smallest,
+            largest: ends.largest,
+            least_seq: ends.least,
+            most_seq: ends.most,
+            oldest_blob: self.oldest.unwrap_or(0),
+        };
+        Ok((named, rest))
     }
 }

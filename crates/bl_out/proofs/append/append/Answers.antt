@@ -14,7 +14,6 @@ returns-in_err-append-clause-touches g c =
     c.append.ensures.certain c.append.ensures.told c.append.ensures.time
     (λ shown. g.met.S.Site.only shown old) (λ shown. g.met.S.Site.only shown new) (λ shown. g.met.S.Site.only_now shown old)
 
-
 pub returns-clause-touches : goal.returns-clause-touches
 returns-clause-touches g c =
     let s = g.S.Site in

@@ -14,7 +14,6 @@ returns-in_err-create-clause-touches g c =
     (λ from to made. create_stays name from to (inr made)) c.create.ensures.time
     (λ shown. g.met.S.Site.only shown old) (λ shown. g.met.S.Site.only_now shown old)
 
-
 pub returns-clause-touches : goal.returns-clause-touches
 returns-clause-touches g c =
     let s = g.S.Site in

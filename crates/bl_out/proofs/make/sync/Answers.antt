@@ -14,7 +14,6 @@ returns-in_err-sync-clause-touches g c =
     c.sync.ensures.certain c.sync.ensures.told c.sync.ensures.time
     (λ shown. g.met.S.Site.only shown old) (λ shown. g.met.S.Site.only shown new) (λ shown. g.met.S.Site.only_now shown old)
 
-
 pub returns-clause-touches : goal.returns-clause-touches
 returns-clause-touches g c =
     let s = g.S.Site in
