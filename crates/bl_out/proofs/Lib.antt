@@ -2,6 +2,7 @@ mod OrderLemmas
 mod ValueLemmas
 pub mod QuietLemmas
 pub mod AppendLemmas
+pub mod SpansLemmas
 pub mod HandLemmas
 pub mod FileLemmas
 pub mod BecomeLemmas
