@@ -1,6 +1,6 @@
 -- What becomes of an output by each part of a call.
 use Rattle.std.proofs.Common.{◌≡◌, ◌≢◌, ℕ, zero, suc, ◌+◌, ◌-◌, ◌<◌, ◌≤◌, Bool, true, false, List, [], ◌∷◌, ◌++◌, length, take, drop, refl, sym, ◌∙◌, ap, subst, arith, Option, Some, None, append_assoc, append-nil, length-append}
-use Rattle.std.specs.Prelude.{map, IfSome, IsSome, is_some, Contains, if◌then◌else◌, Result, Ok, Err, IfErr, OnOk}
+use Rattle.std.specs.Prelude.{map, IfSome, IsSome, is_some, Contains, if◌then◌else◌, Result, Ok, Err, IfErr, OnErr, OnOk}
 use Rattle.std.specs.Result.{IsErrAnd}
 use Rattle.std.specs.List.{AllByRecursion}
 use Rattle.std.proofs.lemmas.List.{drop-append-le}
@@ -286,3 +286,7 @@ on_ok (Err e) f = tt
 pub at_ok : {T E P : Type 0} (r : Result T E) (x : T) → r ≡ Ok x → OnOk r P → P
 at_ok (Ok y) x e p = p
 at_ok (Err y) x e p = absurd cc
+
+pub on_err : {T E P : Type 0} (r : Result T E) → P → OnErr r P
+on_err (Ok x) p = tt
+on_err (Err e) p = p

@@ -49,7 +49,7 @@ returns-clause-becomes g c = λ next.
 pub returns-clause-filled : goal.returns-clause-filled
 returns-clause-filled g c =
     let count : c.write.new.self.totals.count ≡ c.in-Some-totals_behind.totals.count = ap (λ (h : BlobHand). h.totals.count) c.write.ensures.totals in
-    omega (arith, count, c.in-Some-totals_behind.ensures.count)
+    (refl, omega (arith, count, c.in-Some-totals_behind.ensures.count))
 
 pub returns-clause-acts : goal.returns-clause-acts
 returns-clause-acts g c =
