@@ -1,9 +1,11 @@
 -- What becomes of an output by each part of a call.
 use Rattle.std.proofs.Common.{◌≡◌, ◌≢◌, ℕ, zero, suc, ◌+◌, ◌-◌, ◌<◌, ◌≤◌, Bool, true, false, List, [], ◌∷◌, ◌++◌, length, take, drop, refl, sym, ◌∙◌, ap, subst, arith, Option, Some, None, append_assoc, append-nil, length-append}
-use Rattle.std.specs.Prelude.{map, IfSome, IsSome, is_some, Contains, if◌then◌else◌, Result, Ok, Err, IfErr}
+use Rattle.std.specs.Prelude.{map, IfSome, IsSome, is_some, Contains, if◌then◌else◌, Result, Ok, Err, IfErr, OnErr, OnOk}
 use Rattle.std.specs.Result.{IsErrAnd}
 use Rattle.std.specs.List.{AllByRecursion}
 use Rattle.std.proofs.lemmas.List.{drop-append-le}
+use Rattle.std.proofs.lemmas.List.Elements.{Contains-append_left, Contains-push}
+use Rattle.std.proofs.lemmas.Bool.{false≢true}
 use Rattle.bl_site.specs.Disk.{Disk, File, Name}
 use Rattle.bl_site.specs.Calls.{Appends, Creates, Puts}
 use Rattle.bl_site.specs.declared.site.Site.{Ghosts}
@@ -24,7 +26,7 @@ use Rattle.bl_out.specs.declared.error.JobErr.TheVariants.{OutOfMemory}
 use Rattle.bl_out.proofs.BecomeLemmas.{not_blob, not_table}
 use Rattle.bl_out.specs.States.{names_of, AreBlobs, AreDrawn, AreTables, AreThere, AscendTo, Becomes, BlobHand, Hand, IsBlobHandOf, IsClosedAs, IsHandOf, IsOrdered, IsOut, Spans, State}
 use Rattle.bl_out.specs.Steps.{closed_blob, closed_last, store_value, with_blob, with_entry, with_table, with_value}
-use Rattle.bl_out.proofs.FileLemmas.{all_both, still_there}
+use Rattle.bl_out.proofs.FileLemmas.{all_both, all_to, still_there}
 use Rattle.bl_out.proofs.HandLemmas.{blobs_begin, blobs_close, ends_in_blob, ends_in_table, on_last_behind, tables_begin, tables_close, tables_closed}
 use Rattle.bl_out.proofs.StepLemmas.{last_blob_holds, last_table_holds, new_blob_holds, new_table_holds, some_of, there_on}
 
@@ -214,3 +216,77 @@ blob_among s h hand d name same other none = subst (λ (n : Name). IsNoneOf (n �
 pub memory_of : {T : Type 0} (r : Result T JobErr) → IsErrAnd r (λ y. y ≡ OutOfMemory) → IfErr r (λ e. e ≡ OutOfMemory)
 memory_of (Ok x) a = absurd a
 memory_of (Err e) a = a
+
+-- ---- a number more is drawn
+
+more_among : {A : Type 0} (number : A → ℕ) (ns : List ℕ) (n : ℕ) (xs : List A) → AllByRecursion (λ x. Contains ns (number x)) xs → AllByRecursion (λ x. Contains (ns ++ n ∷ []) (number x)) xs
+more_among number ns n xs all = all_to (λ x. Contains ns (number x)) (λ x. Contains (ns ++ n ∷ []) (number x)) xs (λ x is. Contains-append_left ns (n ∷ []) (number x) is) all
+
+more_in : {A : Type 0} (number : A → ℕ) (ns : List ℕ) (n : ℕ) (o : Option A) → IfSome o (λ x. Contains ns (number x)) → IfSome o (λ x. Contains (ns ++ n ∷ []) (number x))
+more_in number ns n None is = tt
+more_in number ns n (Some x) is = Contains-append_left ns (n ∷ []) (number x) is
+
+pub drawn_more : (s : State) (n : ℕ) (set : Bool) → AreDrawn s → IsNumber n → AreDrawn (record s { drawn = s.drawn ++ n ∷ []; failed = set })
+drawn_more s n set d is = record {
+  numbers = all_both IsNumber s.drawn (n ∷ []) d.numbers (is, tt);
+  table = more_in (λ (h : Hand). h.number) s.drawn n s.table d.table;
+  blob = more_in (λ (h : BlobHand). h.number) s.drawn n s.blob d.blob;
+  tables = more_among (λ (t : NewTable). t.number) s.drawn n s.tables d.tables;
+  blobs = more_among (λ (b : BlobAddition). b.number) s.drawn n s.blobs d.blobs;
+}
+
+pub drawn_table : (s : State) (n : ℕ) (set : Bool) (k : Hand) → k.number ≡ n → AreDrawn s → IsNumber n → AreDrawn (record s { table = Some k; drawn = s.drawn ++ n ∷ []; failed = set })
+drawn_table s n set k same d is = let more = drawn_more s n set d is in
+    record { numbers = more.numbers; table = subst (Contains (s.drawn ++ n ∷ [])) (sym same) (Contains-push s.drawn n); blob = more.blob; tables = more.tables; blobs = more.blobs }
+
+pub drawn_blob : (s : State) (n : ℕ) (set : Bool) (k : BlobHand) → k.number ≡ n → AreDrawn s → IsNumber n → AreDrawn (record s { blob = Some k; drawn = s.drawn ++ n ∷ []; failed = set })
+drawn_blob s n set k same d is = let more = drawn_more s n set d is in
+    record { numbers = more.numbers; table = more.table; blob = subst (Contains (s.drawn ++ n ∷ [])) (sym same) (Contains-push s.drawn n); tables = more.tables; blobs = more.blobs }
+
+pub new_table_among : (ns : List ℕ) (n : ℕ) (name : Name) → name ≡ name_of (Table n) → (other : Name) → IsNoneOf (names_of (ns ++ n ∷ [])) other → IsNoneOf (name ∷ []) other
+new_table_among ns n name same other none = subst (λ (m : Name). IsNoneOf (m ∷ []) other) (sym same) (not_table (ns ++ n ∷ []) n (Contains-push ns n) other none)
+
+pub new_blob_among : (ns : List ℕ) (n : ℕ) (name : Name) → name ≡ name_of (Blob n) → (other : Name) → IsNoneOf (names_of (ns ++ n ∷ [])) other → IsNoneOf (name ∷ []) other
+new_blob_among ns n name same other none = subst (λ (m : Name). IsNoneOf (m ∷ []) other) (sym same) (not_blob (ns ++ n ∷ []) n (Contains-push ns n) other none)
+
+pub not_set : {P : Type 0} → true ≡ false → P
+not_set e = absurd (false≢true (sym e))
+
+pub none_is : {A : Type 0} (o : Option A) → is_some o ≡ false → o ≡ None
+none_is None e = refl
+none_is (Some x) e = not_set e
+
+-- where no file is sealed
+pub none_sealed : (n m : ℕ) → n ≡ 0 → n ≤ m
+none_sealed n m e = omega arith
+
+-- the file that was written is there, and so is what was there
+pub still_with : (name : Name) (old new : Disk) → ((other : Name) → IsNoneOf (name ∷ []) other → new other ≡ old other) → IsSome (new name) → (other : Name) → IsSome (old other) → IsSome (new other)
+still_with name old new others here other was = by (new other) refl
+  where
+    by : (o : Option File) → new other ≡ o → IsSome (new other)
+    by (Some x) e = ap is_some e
+    by None e =
+        let differs : name ≢ other = λ (same : name ≡ other). let gone : new name ≡ None = ap new same ∙ e in false≢true (sym (ap is_some gone) ∙ here) in
+        let gone : old other ≡ None = sym (others other (differs, tt)) ∙ e in
+        absurd (false≢true (sym (ap is_some gone) ∙ was))
+
+-- the same blob file is in hand
+pub drawn_same_blob : (s : State) (h k : BlobHand) (set : Bool) → s.blob ≡ Some h → k.number ≡ h.number → AreDrawn s → AreDrawn (record s { blob = Some k; failed = set })
+drawn_same_blob s h k set hand same d = record { numbers = d.numbers; table = d.table; blob = subst (Contains s.drawn) (sym same) (some_of s.blob h (λ (x : BlobHand). Contains s.drawn x.number) hand d.blob); tables = d.tables; blobs = d.blobs }
+
+pub drawn_same_table : (s : State) (h k : Hand) (set : Bool) → s.table ≡ Some h → k.number ≡ h.number → AreDrawn s → AreDrawn (record s { table = Some k; failed = set })
+drawn_same_table s h k set hand same d = record { numbers = d.numbers; table = subst (Contains s.drawn) (sym same) (some_of s.table h (λ (x : Hand). Contains s.drawn x.number) hand d.table); blob = d.blob; tables = d.tables; blobs = d.blobs }
+
+-- what holds at Ok
+pub on_ok : {T E P : Type 0} (r : Result T E) → ((x : T) → r ≡ Ok x → P) → OnOk r P
+on_ok (Ok x) f = f x refl
+on_ok (Err e) f = tt
+
+pub at_ok : {T E P : Type 0} (r : Result T E) (x : T) → r ≡ Ok x → OnOk r P → P
+at_ok (Ok y) x e p = p
+at_ok (Err y) x e p = absurd cc
+
+pub on_err : {T E P : Type 0} (r : Result T E) → P → OnErr r P
+on_err (Ok x) p = tt
+on_err (Err e) p = p

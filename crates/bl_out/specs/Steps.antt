@@ -65,6 +65,10 @@ with_large next e o =
     let p = with_blob_room (has_blob o) next o in
     record p { tables = on_last (put_entry (entry_behind (last_of p.blobs) e)) p.tables; blobs = on_last (put_record o.options e) p.blobs }
 
+-- An entry, whose value is large or not.
+abbrev pub with_written : Bool → ℕ → Entry → Out → Out
+with_written large next e o = if large then with_large next e o else with_entry e o
+
 -- the index of an entry's value, as the next record of the blob file in hand
 abbrev pub index_at : BlobHand → Entry → BlobIndex
 index_at h e = record { file = h.number; offset = 30 + h.totals.bytes + 32 + length e.key.user; size = length e.value }

@@ -1,6 +1,6 @@
 //! The output: tables and blob files that are written from entries in key order.
 
-ghost use Rattle.std.specs.Prelude.{◌≡◌, ℕ, ◌⊎◌, ◌+◌, ◌^◌, ◌<◌, ◌≤◌, nat_le, List, [], ◌∷◌, ◌++◌, length, Err, true, false, None, Some, if◌then◌else◌, is_some, IfOk, IfErr, IfSome, IsSome, IsSomeAnd, IsErrOf, OnErr, OnOk};
+ghost use Rattle.std.specs.Prelude.{◌≡◌, ℕ, ◌⊎◌, ◌+◌, ◌^◌, ◌<◌, ◌≤◌, nat_le, List, [], ◌∷◌, ◌++◌, length, Err, true, false, not, ◌&&◌, None, Some, if◌then◌else◌, is_some, IfOk, IfErr, IfSome, IsSome, IsSomeAnd, IsErrOf, OnErr, OnOk};
 ghost use Rattle.bl_site.specs.Causes.{Rose};
 ghost use Rattle.bl_site.specs.Quiet.{TellsNothing};
 ghost use Rattle.bl_blob.specs.BlobFile.{IsRecord};
@@ -10,7 +10,7 @@ ghost use Rattle.bl_out.specs.Causes.{IsAddCause, IsSealCause};
 ghost use Rattle.bl_out.specs.Outputs.{Out, added, begins_table, begun, made_for, record_of};
 ghost use Rattle.bl_out.specs.Quiet.{TouchesOnly};
 ghost use Rattle.bl_out.specs.States.{AreThere, Becomes, BlobHand, Draws, IsOut, Refuses, Stays, names_of};
-ghost use Rattle.bl_out.specs.Steps.{Acts, Keeps, closed_blob, closed_last, index_at, with_blob_room, with_entry, with_large, with_room, with_table, with_value};
+ghost use Rattle.bl_out.specs.Steps.{Acts, Keeps, closed_blob, closed_last, index_at, with_blob_room, with_entry, with_large, with_room, with_table, with_value, with_written};
 ghost use Rattle.bl_out.specs.Written.{is_large, reference_to};
 ghost use Rattle.bl_out.specs.declared.error.JobErr.TheVariants.{Disk, Full, OutOfMemory};
 
@@ -77,10 +77,32 @@ fn is_large(options: &Options, entry: &Entry) -> bool
     }
 }
 
+// Whether a table of this size is closed before an entry, which is of another user key or not.
+fn is_due(options: &Options, one_table: bool, size: u64, is_of_other: bool) -> bool
+    ensures { result ≡ (not one_table && (nat_le options.now.table_size size && is_of_other)) }
+{
+    !one_table && options.table_size <= size && is_of_other
+}
+
+// Whether a blob file of this size is closed.
+fn is_full(options: &Options, size: u128) -> bool
+    ensures { result ≡ nat_le options.now.blob_file_size size }
+{
+    u128::from(options.blob_file_size) <= size
+}
+
+// The user key of an entry.
+fn user_of(entry: &Entry) -> &[u8]
+    ensures { result.now ≡ entry.now.key.user }
+{
+    entry.key.user.as_slice()
+}
+
 // The entry with this index in the place of its value.
 fn referring(alloc: Global, entry: &Entry, index: &BlobIndex) -> Result<Entry, JobErr>
     requires proper { IsProper entry.now }
     requires file { IsNumber index.now.file }
+    requires place { (index.now.offset < 2 ^ 63) × (index.now.size < 2 ^ 63) }
     ensures entry { IfOk result (λ w. w ≡ reference_to index.now entry.now) }
     ensures proper { IfOk result IsProper }
     ensures memory { IfErr result (λ e. e ≡ OutOfMemory) }
@@ -150,11 +172,7 @@ impl Output {
     {
         let begins = self.begins_table(entry);
         self.make_room(alloc, site, numbers, begins)?;
-        if is_large(&self.options, entry) {
-            self.add_large(alloc, site, numbers, entry)?;
-        } else {
-            self.put(alloc, site, entry)?;
-        }
+        self.write_entry(alloc, site, numbers, entry)?;
         self.failed = false;
         Ok(())
     }
@@ -185,15 +203,18 @@ impl Output {
 
     // Whether a table begins with this entry.
     fn begins_table(&self, entry: &Entry) -> bool
-        ensures { (o : Out) → IsOut o self.now → result ≡ begins_table o entry.now }
+        ensures begins { (o : Out) → IsOut o self.now → result ≡ begins_table o entry.now }
+        ensures none { self.now.table ≡ None → result ≡ true }
+        ensures filled { self.now.failed ≡ false → IfSome self.now.blob (λ b. 1 ≤ b.totals.count) }
     {
         match &self.table {
             None => true,
-            Some(hand) => {
-                !self.one_table
-                    && hand.size() >= self.options.table_size
-                    && hand.ends_before(entry)
-            }
+            Some(hand) => is_due(
+                &self.options,
+                self.one_table,
+                hand.size(),
+                hand.ends_before(entry),
+            ),
         }
     }
 
@@ -299,12 +320,40 @@ impl Output {
         ensures drawn { self.new.drawn ≡ self.old.drawn }
         ensures stays { OnErr result (self.new.failed ≡ false → (self.new ≡ self.old) × (site.new ≡ site.old)) }
         ensures acts { Acts S.Site result self.old self.new site.old site.new }
+        ensures causes { IfErr result IsSealCause }
     {
         names_one();
         match &mut self.table {
             Some(hand) => hand.write(alloc, site, entry, &mut self.failed),
             None => unreachable!(),
         }
+    }
+
+    // The entry goes into the table in hand, which there is, and a large value to a blob file.
+    fn write_entry<S: Site>(
+        &mut self,
+        alloc: Global,
+        site: &mut S,
+        numbers: &mut Numbers,
+        entry: &Entry,
+    ) -> Result<(), JobErr>
+        requires unsealed { self.old.sealed ≡ 0 }
+        requires proper { IsProper entry.now }
+        requires hand { IsSome self.old.table }
+        requires filled { IfSome self.old.blob (λ b. 1 ≤ b.totals.count) }
+        requires there { S.shows → AreThere (S.disk site.old) self.old }
+        ensures becomes { OnOk result (Becomes S.Site numbers.old (with_written (is_large self.old.options.min_blob_size entry.now) numbers.old entry.now) self.old self.new site.old site.new) }
+        ensures filled { OnOk result (IfSome self.new.blob (λ b. 1 ≤ b.totals.count)) }
+        ensures keeps { Keeps self.old self.new }
+        ensures draws { Draws (if (is_large self.old.options.min_blob_size entry.now && not (is_some self.old.blob)) then 1 else 0) self.old self.new numbers.old numbers.new }
+        ensures full { (n : ℕ) → result ≡ Err (Full n) → (is_large self.old.options.min_blob_size entry.now && not (is_some self.old.blob) ≡ true) × (numbers.new ≡ 10 ^ 15) × (numbers.old ≡ 10 ^ 15) }
+        ensures stays { OnErr result (self.new.failed ≡ false → Stays self.old self.new numbers.old numbers.new site.old site.new) }
+        ensures acts { Acts S.Site result self.old self.new site.old site.new }
+    {
+        if is_large(&self.options, entry) {
+            return self.add_large(alloc, site, numbers, entry);
+        }
+        self.put(alloc, site, entry)
     }
 
     // A large value goes to the blob file in hand, which begins where there is none, and is closed once it has its size; the
@@ -386,18 +435,19 @@ impl Output {
         ensures becomes { (next : ℕ) → OnOk result (Becomes S.Site next (with_value entry.now) self.old self.new site.old site.new) }
         ensures reference { (h : BlobHand) → self.old.blob ≡ Some h → IfOk result (λ w. w ≡ reference_to (index_at h entry.now) entry.now) }
         ensures proper { IfOk result IsProper }
-        ensures filled { OnOk result (IsSomeAnd self.new.blob (λ b. 1 ≤ b.totals.count)) }
+        ensures filled { OnOk result ((self.new.failed ≡ true) × IsSomeAnd self.new.blob (λ b. 1 ≤ b.totals.count)) }
         ensures keeps { Keeps self.old self.new }
         ensures table { self.new.table ≡ self.old.table }
         ensures drawn { self.new.drawn ≡ self.old.drawn }
         ensures stays { self.new.failed ≡ false → (self.new ≡ self.old) × (site.new ≡ site.old) }
         ensures acts { Acts S.Site result self.old self.new site.old site.new }
+        ensures causes { IfErr result IsSealCause }
     {
         names_one();
         let Some(hand) = &mut self.blob else {
             unreachable!()
         };
-        let (key, value) = (entry.key.user.as_slice(), entry.value.as_slice());
+        let (key, value) = (user_of(entry), entry.value.as_slice());
         let Some(totals) = hand.totals_behind(key.len(), value.len()) else {
             return Err(JobErr::OutOfMemory);
         };
@@ -420,11 +470,10 @@ impl Output {
         ensures drawn { self.new.drawn ≡ self.old.drawn }
         ensures stays { self.new.failed ≡ false → (self.new ≡ self.old) × (site.new ≡ site.old) }
         ensures acts { Acts S.Site result self.old self.new site.old site.new }
+        ensures causes { IfErr result IsSealCause }
     {
         match &self.blob {
-            Some(hand) if hand.size() >= u128::from(self.options.blob_file_size) => {
-                self.close_blob(site)
-            }
+            Some(hand) if is_full(&self.options, hand.size()) => self.close_blob(site),
             _ => Ok(()),
         }
     }
