@@ -487,6 +487,7 @@ impl Output {
         ensures becomes { (next : ℕ) → IsSome self.old.blob → OnOk result (Becomes S.Site next closed_blob self.old self.new site.old site.new) }
         ensures hand { OnOk result (self.new.blob ≡ None) }
         ensures count { OnOk result (IsSome self.old.blob → length self.old.blobs < length self.new.blobs) }
+        ensures tables { self.new.tables ≡ self.old.tables }
         ensures filled { IfSome self.new.blob (λ b. 1 ≤ b.totals.count) }
         ensures keeps { Keeps self.old self.new }
         ensures table { self.new.table ≡ self.old.table }
