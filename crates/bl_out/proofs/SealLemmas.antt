@@ -296,10 +296,10 @@ module _ (o : Out) (s : State) (is : IsOut o s) where
       let before : nat_le (length o.tables) o.sealed ≡ false = not_most (length o.tables) o.sealed less in
       (λ i. next_by (within i) (before i) o) ∙ (λ i. record o { sealed = o.sealed + 1; tables = same i })
 
-  next_blobs : (ts : List OutTable) (bs : List OutBlob) → length o.tables ≤ o.sealed → o.sealed < length o.tables + length o.blobs → on_place close_blob (o.sealed - length o.tables) o.blobs ≡ bs
+  next_blobs : (bs : List OutBlob) → length o.tables ≤ o.sealed → o.sealed < length o.tables + length o.blobs → on_place close_blob (o.sealed - length o.tables) o.blobs ≡ bs
       → sealed_next o ≡ record o { sealed = o.sealed + 1; blobs = bs }
   unfolding next_by
-  next_blobs ts bs le less same =
+  next_blobs bs le less same =
       let within : nat_lt o.sealed (length (files_of o)) ≡ true = is_less o.sealed (length (files_of o)) (omega (arith, count_files)) in
       let behind : nat_le (length o.tables) o.sealed ≡ true = is_most (length o.tables) o.sealed le in
       (λ i. next_by (within i) (behind i) o) ∙ (λ i. record o { sealed = o.sealed + 1; tables = place_beyond close_table o.sealed o.tables le i; blobs = same i })
@@ -316,13 +316,13 @@ module _ (o : Out) (s : State) (is : IsOut o s) where
   blob_next none le less =
       let count : length o.tables ≡ length s.tables = tables_count o.tables s.tables (subst (AreTables o.tables s.tables) none is.tables) in
       let least : length s.blobs ≤ length o.blobs = blobs_at_least o.blobs s.blobs s.blob is.blobs in
-      next_blobs o.tables o.blobs (omega (arith, is.sealed)) (omega (arith, is.sealed)) (blobs_place o.blobs s.blobs s.blob (o.sealed - length o.tables) is.blobs (omega (arith, is.sealed)))
+      next_blobs o.blobs (omega (arith, is.sealed)) (omega (arith, is.sealed)) (blobs_place o.blobs s.blobs s.blob (o.sealed - length o.tables) is.blobs (omega (arith, is.sealed)))
 
   pub blob_hand_next : s.table ≡ None → IsSome s.blob → s.sealed ≡ length s.tables + length s.blobs → sealed_next o ≡ sealed_one (closed_blob o)
   blob_hand_next none hand all =
       let count : length o.tables ≡ length s.tables = tables_count o.tables s.tables (subst (AreTables o.tables s.tables) none is.tables) in
       let blobs : length o.blobs ≡ length s.blobs + 1 = blobs_with o.blobs s.blobs s.blob is.blobs hand in
-      next_blobs o.tables (on_last close_blob o.blobs) (omega (arith, is.sealed)) (omega (arith, is.sealed)) (place_last close_blob (o.sealed - length o.tables) o.blobs (omega (arith, is.sealed)))
+      next_blobs (on_last close_blob o.blobs) (omega (arith, is.sealed)) (omega (arith, is.sealed)) (place_last close_blob (o.sealed - length o.tables) o.blobs (omega (arith, is.sealed)))
 
   -- all are sealed
   none_left : s.table ≡ None → s.blob ≡ None → s.sealed ≡ length s.tables + length s.blobs → length (files_of o) ≤ o.sealed
