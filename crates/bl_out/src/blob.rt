@@ -77,6 +77,7 @@ impl BlobInHand {
     /// The totals with a record more, of a key and a value of so many bytes, unless their size would come to 2^63.
     pub(crate) fn totals_behind(&self, key: usize, value: usize) -> Option<Totals>
         ensures totals { IfSome result (λ totals. (rs : List Record) (r : Record) → self.now.totals ≡ totals_of rs → length r.key ≡ key → length r.value ≡ value → totals ≡ totals_of (rs ++ r ∷ [])) }
+        ensures count { IfSome result (λ totals. totals.count ≡ self.now.totals.count + 1) }
         ensures bound { IfSome result (λ totals. (30 + totals.bytes < 2 ^ 63) × (self.now.totals.bytes + 32 + key + value ≡ totals.bytes)) }
     {
         let size = 32u64.checked_add(key as u64)?.checked_add(value as u64)?;

@@ -8,6 +8,7 @@ mod error;
 mod laws;
 mod make;
 mod numbers;
+mod seal;
 mod sealed;
 mod table;
 mod writer;

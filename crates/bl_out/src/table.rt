@@ -239,7 +239,7 @@ impl TableInHand {
         ensures appended { S.shows → OnOk result ((es : List Entry) → Spans es self.old → Follows (name_of (Table self.old.number)) (open_bytes es) (open_bytes (es ++ entry.now ∷ [])) (S.disk site.old) (S.disk site.new)) }
         ensures still { S.shows → OnOk result (IsSome (S.disk site.new (name_of (Table self.old.number)))) }
         ensures number { self.new.number ≡ self.old.number }
-        ensures stays { OnErr result (failed.new ≡ false → (self.new ≡ self.old) × (site.new ≡ site.old)) }
+        ensures stays { IfErr result (λ e. failed.new ≡ false → (e ≡ OutOfMemory) × (self.new ≡ self.old) × (site.new ≡ site.old)) }
         ensures was_set { failed.old ≡ true → failed.new ≡ true }
         ensures asked { failed.new ≡ true → (failed.old ≡ true) ⊎ Rose (S.changes site.old) (S.changes site.new) }
         ensures changes { (S.changes site.new ≡ S.changes site.old) ⊎ Rose (S.changes site.old) (S.changes site.new) }

@@ -1,5 +1,5 @@
 use Rattle.std.specs.Prelude.{◌==◌, IsSome}
-use Rattle.std.proofs.Common.{◌≡◌, refl, ◌∙◌, ap, subst, List, ℕ}
+use Rattle.std.proofs.Common.{◌≡◌, List, ℕ, refl, ◌∙◌, ap, subst}
 use Rattle.bl_names.specs.Names.{name_of}
 use Rattle.bl_names.specs.declared.name.FileName.TheVariants.{Blob}
 use Rattle.bl_blob.specs.BlobFile.{Record}
@@ -21,9 +21,11 @@ returns-clause-appended g c = λ shown.
 pub returns-clause-still : goal.returns-clause-still
 returns-clause-still g c = λ shown.
     let s = g.S.Site in
-    let bytes : List ℕ = piece (c.self.inside.totals.count == 0) (record { key = c.args.key.now; value = c.args.value.now }) in
+    let r : Record = record { key = c.args.key.now; value = c.args.value.now } in
+    let totals = c.self.inside.totals in
     let name = name_of (Blob c.args.self.now.number) in
     let called = c.as_str.result.now in
+    let bytes : List ℕ = piece (totals.count == 0) r in
     let same : called ≡ name = c.as_str.ensures.value ∙ c.self.invariant.1 ∙ ap (λ (h : BlobHand). name_of (Blob h.number)) c.self.view_is in
-    let after = s.disk c.append_record.new.site in
-    ok_map c.append_record.result (λ a. subst (λ n. IsSome (after n)) same (there_behind called bytes (s.disk c.args.site.now) after a)) (c.append_record.ensures.appended shown bytes refl)
+    ok_map c.append_record.result (λ a. subst (λ n. IsSome (s.disk c.append_record.new.site n)) same (there_behind called bytes (s.disk c.args.site.now) (s.disk c.append_record.new.site) a))
+    (c.append_record.ensures.appended shown bytes refl)
