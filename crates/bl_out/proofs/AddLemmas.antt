@@ -1,28 +1,26 @@
 -- The parts of which taking an entry is made are, together, an entry more.
-use Rattle.std.proofs.Common.{◌≡◌, ℕ, ◌+◌, ◌<◌, ◌≤◌, Bool, true, false, List, [], ◌∷◌, ◌++◌, length, refl, sym, ◌∙◌, ap, subst, inl, inr, ⊎_elim, arith, Option, Some, None, append_assoc, append-nil}
-use Rattle.std.specs.Prelude.{◌⊎◌, ◌^◌, ◌&&◌, ◌||◌, not, nat_le, if◌then◌else◌, is_some, IfSome, IsSome, IsSomeAnd, Result, Ok, Err, IfErr}
+use Rattle.std.proofs.Common.{◌≡◌, ℕ, ◌+◌, ◌<◌, Bool, true, false, List, [], ◌∷◌, ◌++◌, length, refl, sym, ◌∙◌, ap, subst, ⊎_elim, arith, Option, Some, None, append_assoc, append-nil}
+use Rattle.std.specs.Prelude.{◌^◌, ◌&&◌, ◌||◌, not, nat_le, if◌then◌else◌, is_some, IsSome, IsSomeAnd, Result, Ok, Err, IfErr}
 use Rattle.std.specs.Result.{IsErrAnd}
 use Rattle.std.specs.List.{range_with_len}
 use Rattle.std.proofs.lemmas.Bool.{false≢true}
-use Rattle.std.proofs.lemmas.Bool.Decides.{nat_tests}
 use Rattle.bl_code.proofs.ReadingLemmas.{blob_index_spelled}
 use Rattle.bl_index.specs.declared.index.BlobIndex.{BlobIndex}
 use Rattle.bl_names.specs.Names.{IsNumber}
 use Rattle.bl_entry.specs.Entries.{IsProper}
 use Rattle.bl_out.specs.Causes.{IsSealCause}
-use Rattle.bl_site.specs.Causes.{Rose}
 use Rattle.bl_site.specs.declared.site.Site.{Ghosts}
 use Rattle.bl_entry.specs.declared.key.Entry.{Entry}
 use Rattle.bl_entry.specs.Entries.{last_of}
 use Rattle.bl_blob.specs.BlobFile.{totals_of}
 use Rattle.bl_edit.specs.Options.{Values}
-use Rattle.bl_out.specs.Outputs.{Out, OutBlob, OutTable, added, begins_blob, begins_table, blob_size, close_blob, close_table, entry_behind, goes_on, is_of_other, made_for, new_blob, new_table, on_last, open_size, passes, put_entry, put_record, record_of}
-use Rattle.bl_out.specs.States.{AreDrawn, IsOrdered, Spans, AreBlobs, AreTables, Becomes, BlobHand, Draws, Hand, IsBlobHandOf, IsOut, Refuses, State, Stays}
-use Rattle.bl_out.specs.Steps.{Acts, closed_blob, has_blob, index_at, store_value, with_blob_room, with_entry, with_large, with_room, with_table, with_value, with_written, closed_last}
+use Rattle.bl_out.specs.Outputs.{Out, OutBlob, OutTable, added, begins_table, blob_size, close_blob, close_table, entry_behind, goes_on, is_of_other, made_for, new_blob, new_table, on_last, open_size, passes, put_entry, put_record, record_of}
+use Rattle.bl_out.specs.States.{IsOrdered, Spans, AreBlobs, AreTables, Becomes, BlobHand, Hand, IsBlobHandOf, IsOut, State}
+use Rattle.bl_out.specs.Steps.{closed_blob, has_blob, index_at, store_value, with_blob_room, with_entry, with_large, with_room, with_table, with_value, with_written, closed_last}
 use Rattle.bl_out.specs.Written.{is_large, reference_to}
 use Rattle.bl_out.specs.declared.error.JobErr.{JobErr}
-use Rattle.bl_out.specs.declared.error.JobErr.TheVariants.{Full, OutOfMemory}
-use Rattle.bl_out.proofs.BecomeLemmas.{draws_join, ordered_blob, ordered_closed, ordered_later, ordered_table}
+use Rattle.bl_out.specs.declared.error.JobErr.TheVariants.{Full}
+use Rattle.bl_out.proofs.BecomeLemmas.{ordered_blob, ordered_closed, ordered_later, ordered_table}
 use Rattle.bl_out.proofs.HandLemmas.{ends_in_blob, ends_in_table, none_goes_on, last_behind, no_blob, on_last_behind}
 
 -- ---- the blob file in hand
@@ -154,17 +152,6 @@ pub made_is : (o : Out) (e : Entry) (b l held : Bool) → begins_table o e ≡ b
 unfolding made_by
 made_is o e b l held begins large has = λ i. made_by (sym begins i) (sym large i) (sym has i)
 
-turned : (held : Bool) → ◌≡◌ {A = ℕ} (if held then 0 else 1) (if (true && not held) then 1 else 0)
-turned true = refl
-turned false = refl
-
--- where a value is large
-pub large_draws : (l held : Bool) (a b : State) (k m : ℕ) → l ≡ true → Draws (if held then 0 else 1) a b k m → Draws (if (l && not held) then 1 else 0) a b k m
-large_draws l held a b k m large draws = subst (λ (x : Bool). Draws (if (x && not held) then 1 else 0) a b k m) (sym large) (subst (λ (n : ℕ). Draws n a b k m) (turned held) draws)
-
-pub large_full : (l held : Bool) → l ≡ true → held ≡ false → l && not held ≡ true
-large_full l held large none = λ i. large i && not (none i)
-
 -- more files were to be made than numbers were left
 pub too_many : (b c : Bool) (next later : ℕ) → later ≡ (if b then next + 1 else next) → later ≡ 10 ^ 15 → c ≡ true → 10 ^ 15 < next + ((if b then 1 else 0) + (if c then 1 else 0))
 too_many true c next later is end test = subst (λ (x : Bool). 10 ^ 15 < next + (1 + (if x then 1 else 0))) (sym test) (omega arith)
@@ -217,16 +204,6 @@ pub some_and : {A : Type 0} (o : Option A) (P : A → Type 0) → IsSomeAnd o P 
 some_and None P is = absurd is
 some_and (Some x) P is = (x, refl)
 
-pub if_and : {A : Type 0} (o : Option A) (P : A → Type 0) → IsSomeAnd o P → IfSome o P
-if_and None P is = absurd is
-if_and (Some x) P is = is
-
-pub drawn_usable : (s : State) (set : Bool) → AreDrawn s → AreDrawn (record s { failed = set })
-drawn_usable s set d = record { numbers = d.numbers; table = d.table; blob = d.blob; tables = d.tables; blobs = d.blobs }
-
-pub le_test : (a b : ℕ) → a ≤ b → nat_le a b ≡ true
-le_test a b le = grind (arith, nat_tests)
-
 -- the entry with its index in the place of its value
 pub proper_reference : (index : BlobIndex) (e : Entry) → IsProper e → IsNumber index.file → index.offset < 2 ^ 63 → index.size < 2 ^ 63 → IsProper (reference_to index e)
 proper_reference index e proper number offset size = record {
@@ -244,10 +221,4 @@ module _ {S : Type 0} (g : Ghosts S) where
     holds = first.holds;
     there = first.there;
     certain = first.certain;
-  }
-
-  pub refuses : {T : Type 0} (e : JobErr) (a b : State) (k l : ℕ) (s t : S) → a.failed ≡ false → Acts {T = T} g (Err e) a b s t → (b.failed ≡ false → Stays a b k l s t) → Refuses g e a b k l s t
-  refuses e a b k l s t usable acts stays = record {
-    asked = λ set. ⊎_elim (λ was. absurd (false≢true (sym usable ∙ was))) (λ how. ⊎_elim (λ rose. inl rose) (λ full. let is : e ≡ Full (10 ^ 15) = cc in inr is) how) (acts.asked set);
-    stays = λ unset. (acts.memory unset, stays unset);
   }

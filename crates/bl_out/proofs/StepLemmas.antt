@@ -1,27 +1,22 @@
 -- What each part of a call does to an output, its memory and its files.
-use Rattle.std.proofs.Common.{◌≡◌, ◌≢◌, ℕ, zero, suc, ◌+◌, ◌-◌, ◌<◌, ◌≤◌, Bool, true, false, List, [], ◌∷◌, ◌++◌, length, take, drop, refl, sym, ◌∙◌, ap, subst, arith, Option, Some, None, append_assoc, append-nil, length-append}
-use Rattle.std.specs.Prelude.{map, IfSome, IsSome, is_some, Contains}
+use Rattle.std.proofs.Common.{◌≡◌, ◌≢◌, ℕ, ◌+◌, ◌-◌, ◌<◌, ◌≤◌, List, [], ◌∷◌, ◌++◌, length, drop, refl, sym, ◌∙◌, ap, subst, arith, Option, Some, None}
+use Rattle.std.specs.Prelude.{map, IfSome, IsSome, Contains}
 use Rattle.std.specs.List.{AllByRecursion}
-use Rattle.std.proofs.lemmas.List.{drop-append-le}
-use Rattle.bl_site.specs.Disk.{Disk, File, Name}
-use Rattle.bl_site.specs.Calls.{Appends, Creates, Puts}
-use Rattle.bl_site.specs.declared.site.Site.{Ghosts}
+use Rattle.bl_site.specs.Disk.{Disk, Name}
+use Rattle.bl_site.specs.Calls.{Creates}
 use Rattle.bl_names.specs.Names.{IsNumber, NamesOne, name_of}
 use Rattle.bl_names.specs.declared.name.FileName.TheVariants.{Table, Blob}
-use Rattle.bl_entry.specs.declared.key.Entry.{Entry}
-use Rattle.bl_blob.specs.BlobFile.{Record, given, blob_file, totals_of}
-use Rattle.bl_blob.specs.declared.blob.Totals.{Totals}
 use Rattle.bl_edit.specs.declared.edit.NewTable.{NewTable}
 use Rattle.bl_edit.specs.declared.edit.BlobAddition.{BlobAddition}
-use Rattle.bl_table.specs.Spelling.{cut, table}
+use Rattle.bl_table.specs.Spelling.{cut}
 use Rattle.bl_out.specs.Held.{HoldsFile, HoldsOut}
 use Rattle.bl_out.specs.Making.{Follows}
-use Rattle.bl_out.specs.Outputs.{Out, OutBlob, OutFile, OutTable, TableOf, BlobOf, addition_of, blob_bytes, close_blob, close_table, files_of, items_of, new_blob, new_table, on_last, open_bytes, put_entry, record_of, table_bytes}
-use Rattle.bl_out.specs.States.{AreBlobs, AreDrawn, AreTables, AreThere, AscendTo, Becomes, BlobHand, Hand, IsBlobHandOf, IsClosedAs, IsHandOf, IsOrdered, IsOut, Spans, State}
-use Rattle.bl_out.specs.Steps.{closed_blob, closed_last, store_value, with_blob, with_entry, with_table, with_value}
+use Rattle.bl_out.specs.Outputs.{Out, OutBlob, OutTable, TableOf, BlobOf, blob_bytes, files_of, new_blob, new_table, on_last, table_bytes}
+use Rattle.bl_out.specs.States.{AreBlobs, AreDrawn, AreTables, AreThere, AscendTo, BlobHand, Hand, IsBlobHandOf, IsHandOf, IsOrdered, IsOut, State}
+use Rattle.bl_out.specs.Steps.{with_blob, with_table}
 use Rattle.bl_out.proofs.BecomeLemmas.{all_at}
-use Rattle.bl_out.proofs.FileLemmas.{HoldsFirst, Same, all_behind, all_both, all_front, all_to, all_two, begins_empty, below_last, below_next, blob_begins, blob_changes, blobs_differ, grows, kinds_differ, still_there, table_begins, table_changes, tables_differ}
-use Rattle.bl_out.proofs.HandLemmas.{blobs_begin, blobs_close, blobs_count, blobs_numbers, ends_in_blob, ends_in_table, on_last_behind, tables_begin, tables_close, tables_count, tables_numbers}
+use Rattle.bl_out.proofs.FileLemmas.{HoldsFirst, Same, all_front, all_to, all_two, begins_empty, below_last, below_next, blob_begins, blob_changes, blobs_differ, grows, kinds_differ, table_begins, table_changes, tables_differ}
+use Rattle.bl_out.proofs.HandLemmas.{blobs_count, blobs_numbers, ends_in_blob, ends_in_table, on_last_behind, tables_count, tables_numbers}
 
 -- ---- numbers of files
 

@@ -1,12 +1,11 @@
 -- The parts of which taking an entry is made.
-use Rattle.std.specs.Prelude.{◌≡◌, ◌⊎◌, ℕ, ◌+◌, ◌^◌, ◌≤◌, nat_le, not, Bool, true, false, List, [], ◌∷◌, ◌++◌, length, Result, IfErr, IsErrOf, if◌then◌else◌}
+use Rattle.std.specs.Prelude.{◌≡◌, ◌⊎◌, ℕ, ◌+◌, ◌^◌, not, Bool, true, false, [], ◌∷◌, ◌++◌, length, Result, IfErr, IsErrOf, if◌then◌else◌}
 use Rattle.bl_site.specs.Causes.{Rose}
 use Rattle.bl_site.specs.Quiet.{TellsNothing}
 use Rattle.bl_site.specs.declared.site.Site.{Ghosts}
 use Rattle.bl_entry.specs.declared.key.Entry.{Entry}
 use Rattle.bl_entry.specs.Entries.{last_of}
 use Rattle.bl_index.specs.declared.index.BlobIndex.{BlobIndex}
-use Rattle.bl_edit.specs.Options.{Values}
 use Rattle.bl_out.specs.Causes.{IsAddCause}
 use Rattle.bl_out.specs.Outputs.{Out, OutBlob, close_blob, close_table, entry_behind, new_blob, new_table, on_last, passes, put_entry, put_record, record_of}
 use Rattle.bl_out.specs.Quiet.{TouchesOnly}

@@ -1,11 +1,11 @@
-use Rattle.std.proofs.Common.{◌≡◌, ◌+◌, ◌<◌, ℕ, Bool, true, false, refl, sym, ◌∙◌, ap, subst, Err}
+use Rattle.std.proofs.Common.{◌≡◌, ◌+◌, ◌<◌, ℕ, false, sym, ◌∙◌, ap, subst, Err}
 use Rattle.std.specs.Prelude.{◌^◌, ◌&&◌, not, is_some, if◌then◌else◌}
 use Rattle.std.specs.List.{range_with_len}
 use Rattle.std.proofs.lemmas.Result.{err_from_is_err_and}
 use Rattle.bl_edit.specs.Options.{Values}
-use Rattle.bl_out.specs.Outputs.{Out, added, begins_table, made_for}
+use Rattle.bl_out.specs.Outputs.{added, made_for}
 use Rattle.bl_out.specs.Quiet.{TouchesOnly}
-use Rattle.bl_out.specs.States.{Becomes, Draws, IsOut, State, names_of}
+use Rattle.bl_out.specs.States.{Becomes, Draws, State, names_of}
 use Rattle.bl_out.specs.Steps.{has_blob, with_room, with_written}
 use Rattle.bl_out.specs.Written.{is_large}
 use Rattle.bl_out.proofs.AddLemmas.{becomes_usable, has_blob_is, made_is, ordered_room, too_many, written_added}

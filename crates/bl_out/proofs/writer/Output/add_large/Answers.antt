@@ -1,14 +1,12 @@
-use Rattle.std.proofs.Common.{◌≡◌, ◌≤◌, ◌+◌, ℕ, Bool, true, false, List, [], ◌++◌, refl, sym, ◌∙◌, ap, subst, arith, Some, append-nil, Ok, Err}
+use Rattle.std.proofs.Common.{◌≡◌, ◌≤◌, ◌+◌, [], ◌++◌, sym, ◌∙◌, ap, Some, append-nil, Ok}
 use Rattle.std.specs.Prelude.{nat_le, is_some, if◌then◌else◌}
-use Rattle.std.specs.List.{range_with_len}
 use Rattle.std.proofs.lemmas.Bool.{false≢true}
 use Rattle.std.proofs.lemmas.Result.{err_from_is_err_and}
 use Rattle.bl_edit.specs.Options.{Values}
 use Rattle.bl_entry.specs.declared.key.Entry.{Entry}
 use Rattle.bl_out.specs.Outputs.{Out}
-use Rattle.bl_out.specs.States.{Becomes, BlobHand, IsOut, State}
-use Rattle.bl_out.specs.Steps.{Acts, closed_blob, with_blob_room, with_entry, with_large, with_value}
-use Rattle.bl_out.specs.declared.error.JobErr.{JobErr}
+use Rattle.bl_out.specs.States.{Becomes}
+use Rattle.bl_out.specs.Steps.{closed_blob, with_blob_room, with_entry, with_large, with_value}
 use Rattle.bl_out.proofs.AddLemmas.{has_blob_is, large_as, no_full, not_full, ordered_blob_room, some_and, some_from}
 use Rattle.bl_out.proofs.BecomeLemmas.{acts_join, acts_stop, becomes_as, becomes_then, ordered_entry, ordered_value}
 use Rattle.bl_out.proofs.PartLemmas.{at_ok, on_err, on_ok}
