@@ -46,8 +46,10 @@ blobs_as options e due bs front b is unclosed test = by due test
   where
     stored : on_last (store_value e) bs ≡ front ++ store_value e b ∷ []
     stored = ap (on_last (store_value e)) is ∙ on_last_behind (store_value e) front b
+
     put : on_last (put_record options e) bs ≡ front ++ put_record options e b ∷ []
     put = ap (on_last (put_record options e)) is ∙ on_last_behind (put_record options e) front b
+
     by : (d : Bool) → d ≡ nat_le options.blob_file_size (blob_size (b.records ++ record_of e ∷ [])) → (if d then on_last close_blob (on_last (store_value e) bs) else on_last (store_value e) bs) ≡ on_last (put_record options e) bs
     by true t = ap (on_last close_blob) stored ∙ on_last_behind close_blob front (store_value e b)
         ∙ ap (λ (c : Bool). front ++ record { number = b.number; records = b.records ++ record_of e ∷ []; closed = c } ∷ []) t ∙ sym put
@@ -61,7 +63,7 @@ closing_as false q = refl
 large_behind : (p : Out) (options : Values) (e w : Entry) (due : Bool) (front : List OutBlob) (b : OutBlob) (h : BlobHand) → p.blobs ≡ front ++ b ∷ [] → IsBlobHandOf b h → w ≡ reference_to (index_at h e) e
     → due ≡ nat_le options.blob_file_size (blob_size (b.records ++ record_of e ∷ []))
     → record (if due then closed_blob (with_entry w (with_value e p)) else with_entry w (with_value e p)) { given = p.given }
-        ≡ record p { tables = on_last (put_entry (entry_behind (last_of p.blobs) e)) p.tables; blobs = on_last (put_record options e) p.blobs }
+    ≡ record p { tables = on_last (put_entry (entry_behind (last_of p.blobs) e)) p.tables; blobs = on_last (put_record options e) p.blobs }
 large_behind p options e w due front b h is hand reference test =
     let q : Out = with_entry w (with_value e p) in
     let last : last_of p.blobs ≡ Some b = ap last_of is ∙ last_behind front b in
@@ -183,7 +185,7 @@ begins_behind o e s h size other is hand sized differs =
     let last : last_of o.tables ≡ Some t = ap last_of r.is ∙ last_behind r.front t in
     let goes : begins_table o e ≡ not (goes_on o e t) = ap (λ (x : Option OutTable). not (passes (goes_on o e) x)) last in
     let same : not (goes_on o e t) ≡ not (not false && (s.one_table || not (nat_le s.options.table_size size && other))) =
-        λ i. not (not (r.hand.closed i) && (is.one i || not (nat_le (is.options i).table_size (sym (sized t.entries r.hand.spans) i) && sym (differs t.entries r.hand.spans) i))) in
+    λ i. not (not (r.hand.closed i) && (is.one i || not (nat_le (is.options i).table_size (sym (sized t.entries r.hand.spans) i) && sym (differs t.entries r.hand.spans) i))) in
     sym (goes ∙ same ∙ opposite s.one_table (nat_le s.options.table_size size && other))
 
 -- ---- causes

@@ -75,9 +75,12 @@ module _ {S : Type 0} (g : Ghosts S) (one : NamesOne) (s : State) (d : AreDrawn 
         let on = there_on (g.disk old) (g.disk new) s (still_there (name_of (Table h.number)) _ (g.disk old) (g.disk new) (appended shown).puts) there in
         let last : IsSome (g.disk new (name_of (Table n.number))) = subst (λ (m : ℕ). IsSome (g.disk new (name_of (Table m)))) (sym number) (put_is (name_of (Table h.number)) _ (g.disk old) (g.disk new) (appended shown).puts) in
         let before : s.sealed - length s.tables ≡ 0 = omega arith in
-        let after : s.sealed - length (s.tables ++ n ∷ []) ≡ 0 = omega (arith, length-append s.tables (n ∷ [])) in
-        (tt, on.1, drop_behind (λ (t : NewTable). IsSome (g.disk new (name_of (Table t.number)))) s.sealed s.tables (n ∷ []) sealed on.2 (last, tt),
-          subst (λ (k : ℕ). AllByRecursion (λ (b : BlobAddition). IsSome (g.disk new (name_of (Blob b.number)))) (drop k s.blobs)) (before ∙ sym after) on.3);
+        let after : s.sealed - length (s.tables ++ n ∷ []) ≡ 0 = omega (arith, length-append s.tables (n ∷ [])) in (
+          tt,
+          on.1,
+          drop_behind (λ (t : NewTable). IsSome (g.disk new (name_of (Table t.number)))) s.sealed s.tables (n ∷ []) sealed on.2 (last, tt),
+          subst (λ (k : ℕ). AllByRecursion (λ (b : BlobAddition). IsSome (g.disk new (name_of (Blob b.number)))) (drop k s.blobs)) (before ∙ sym after) on.3,
+        );
     certain = certain;
   }
 

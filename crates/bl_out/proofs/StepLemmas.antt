@@ -89,12 +89,12 @@ module _ (one : NamesOne) (s : State) (d : AreDrawn s) (old new : Disk) (next : 
       let long : o.sealed ≤ length e.front = omega (arith, is.sealed, tables_count e.front s.tables e.closed) in
       let name : name_of (Table h.number) ≡ name_of (Table e.last.number) = ap (λ (n : ℕ). name_of (Table n)) (sym e.hand.number) in
       let grown : HoldsFile old (TableOf e.last) → HoldsFile new (TableOf (c e.last)) = grows old new (TableOf e.last) (TableOf (c e.last)) (ap (λ (n : ℕ). name_of (Table n)) (same e.last))
-          (subst (λ (n : Name). Follows n (table_bytes e.last) (table_bytes (c e.last)) old new) name after) in
+      (subst (λ (n : Name). Follows n (table_bytes e.last) (table_bytes (c e.last)) old new) name after) in
       let goal : HoldsFirst new o.sealed (map TableOf (e.front ++ c e.last ∷ []) ++ map BlobOf o.blobs) =
-          table_changes old new o.sealed e.front e.last (c e.last) o.blobs long
-          (tables_same h.number is_h after.appends.puts.others e.front below_h (all_front (λ t. IsNumber t.number) e.front (e.last ∷ []) numbers))
-          (blobs_beside h.number is_h after.appends.puts.others o.blobs (blob_numbers o s is d)) grown
-          (subst (λ (ts : List OutTable). HoldsFirst old o.sealed (map TableOf ts ++ map BlobOf o.blobs)) e.is (first_holds old o held)) in
+      table_changes old new o.sealed e.front e.last (c e.last) o.blobs long
+      (tables_same h.number is_h after.appends.puts.others e.front below_h (all_front (λ t. IsNumber t.number) e.front (e.last ∷ []) numbers))
+      (blobs_beside h.number is_h after.appends.puts.others o.blobs (blob_numbers o s is d)) grown
+      (subst (λ (ts : List OutTable). HoldsFirst old o.sealed (map TableOf ts ++ map BlobOf o.blobs)) e.is (first_holds old o held)) in
       let last : on_last c o.tables ≡ e.front ++ c e.last ∷ [] = ap (on_last c) e.is ∙ on_last_behind c e.front e.last in
       holds_first new (record o { tables = on_last c o.tables }) (subst (λ (ts : List OutTable). HoldsFirst new o.sealed (map TableOf ts ++ map BlobOf o.blobs)) (sym last) goal)
 
@@ -110,12 +110,12 @@ module _ (one : NamesOne) (s : State) (d : AreDrawn s) (old new : Disk) (next : 
       let long : o.sealed ≤ length o.tables + length e.front = omega (arith, is.sealed, blobs_count e.front s.blobs e.closed, tables_at_least o.tables s.tables s.table is.tables) in
       let name : name_of (Blob h.number) ≡ name_of (Blob e.last.number) = ap (λ (n : ℕ). name_of (Blob n)) (sym e.hand.number) in
       let grown : HoldsFile old (BlobOf e.last) → HoldsFile new (BlobOf (c e.last)) = grows old new (BlobOf e.last) (BlobOf (c e.last)) (ap (λ (n : ℕ). name_of (Blob n)) (same e.last))
-          (subst (λ (n : Name). Follows n (blob_bytes e.last) (blob_bytes (c e.last)) old new) name after) in
+      (subst (λ (n : Name). Follows n (blob_bytes e.last) (blob_bytes (c e.last)) old new) name after) in
       let goal : HoldsFirst new o.sealed (map TableOf o.tables ++ map BlobOf (e.front ++ c e.last ∷ [])) =
-          blob_changes old new o.sealed o.tables e.front e.last (c e.last) long
-          (tables_beside h.number is_h after.appends.puts.others o.tables (table_numbers o s is d))
-          (blobs_same h.number is_h after.appends.puts.others e.front below_h (all_front (λ b. IsNumber b.number) e.front (e.last ∷ []) numbers)) grown
-          (subst (λ (bs : List OutBlob). HoldsFirst old o.sealed (map TableOf o.tables ++ map BlobOf bs)) e.is (first_holds old o held)) in
+      blob_changes old new o.sealed o.tables e.front e.last (c e.last) long
+      (tables_beside h.number is_h after.appends.puts.others o.tables (table_numbers o s is d))
+      (blobs_same h.number is_h after.appends.puts.others e.front below_h (all_front (λ b. IsNumber b.number) e.front (e.last ∷ []) numbers)) grown
+      (subst (λ (bs : List OutBlob). HoldsFirst old o.sealed (map TableOf o.tables ++ map BlobOf bs)) e.is (first_holds old o held)) in
       let last : on_last c o.blobs ≡ e.front ++ c e.last ∷ [] = ap (on_last c) e.is ∙ on_last_behind c e.front e.last in
       holds_first new (record o { blobs = on_last c o.blobs }) (subst (λ (bs : List OutBlob). HoldsFirst new o.sealed (map TableOf o.tables ++ map BlobOf bs)) (sym last) goal)
 

@@ -60,7 +60,7 @@ returns-clause-becomes g c =
     let r = c.close_full_blob.result in
     let one : Becomes g.S.Site next (λ o. with_value entry (with_blob_room held next o)) a d s u = becomes_then g.S.Site next (next + 1) (with_blob_room held next) (with_value entry) a b d s t u (λ o out up. ordered_blob_room held next o up) first.becomes (second.becomes (next + 1)) in
     let two : Becomes g.S.Site next (λ o. with_entry w (with_value entry (with_blob_room held next o))) a e s v = becomes_then g.S.Site next (next + 1) (λ o. with_value entry (with_blob_room held next o)) (with_entry w) a d e s u v
-        (λ o out up. ordered_value (next + 1) entry (with_blob_room held next o) (ordered_blob_room held next o up)) one (third.becomes (next + 1)) in
+    (λ o out up. ordered_value (next + 1) entry (with_blob_room held next o) (ordered_blob_room held next o up)) one (third.becomes (next + 1)) in
     let options : e.options ≡ a.options = third.keeps.options ∙ second.keeps.options ∙ first.keeps.options in
     on_ok r (λ x is.
     becomes_as g.S.Site next (λ o. close (with_entry w (with_value entry (with_blob_room held next o)))) (with_large next entry) a z s y
