@@ -1,28 +1,26 @@
 -- The parts of which taking an entry is made are, together, an entry more.
-use Rattle.std.proofs.Common.{◌≡◌, ℕ, ◌+◌, ◌<◌, ◌≤◌, Bool, true, false, List, [], ◌∷◌, ◌++◌, length, refl, sym, ◌∙◌, ap, subst, inl, inr, ⊎_elim, arith, Option, Some, None, append_assoc, append-nil}
-use Rattle.std.specs.Prelude.{◌⊎◌, ◌^◌, ◌&&◌, ◌||◌, not, nat_le, if◌then◌else◌, is_some, IfSome, IsSome, IsSomeAnd, Result, Ok, Err, IfErr}
+use Rattle.std.proofs.Common.{◌≡◌, ℕ, ◌+◌, ◌<◌, Bool, true, false, List, [], ◌∷◌, ◌++◌, length, refl, sym, ◌∙◌, ap, subst, ⊎_elim, arith, Option, Some, None, append_assoc, append-nil}
+use Rattle.std.specs.Prelude.{◌^◌, ◌&&◌, ◌||◌, not, nat_le, if◌then◌else◌, is_some, IsSome, IsSomeAnd, Result, Ok, Err, IfErr}
 use Rattle.std.specs.Result.{IsErrAnd}
 use Rattle.std.specs.List.{range_with_len}
 use Rattle.std.proofs.lemmas.Bool.{false≢true}
-use Rattle.std.proofs.lemmas.Bool.Decides.{nat_tests}
 use Rattle.bl_code.proofs.ReadingLemmas.{blob_index_spelled}
 use Rattle.bl_index.specs.declared.index.BlobIndex.{BlobIndex}
 use Rattle.bl_names.specs.Names.{IsNumber}
 use Rattle.bl_entry.specs.Entries.{IsProper}
 use Rattle.bl_out.specs.Causes.{IsSealCause}
-use Rattle.bl_site.specs.Causes.{Rose}
 use Rattle.bl_site.specs.declared.site.Site.{Ghosts}
 use Rattle.bl_entry.specs.declared.key.Entry.{Entry}
 use Rattle.bl_entry.specs.Entries.{last_of}
 use Rattle.bl_blob.specs.BlobFile.{totals_of}
 use Rattle.bl_edit.specs.Options.{Values}
-use Rattle.bl_out.specs.Outputs.{Out, OutBlob, OutTable, added, begins_blob, begins_table, blob_size, close_blob, close_table, entry_behind, goes_on, is_of_other, made_for, new_blob, new_table, on_last, open_size, passes, put_entry, put_record, record_of}
-use Rattle.bl_out.specs.States.{AreDrawn, IsOrdered, Spans, AreBlobs, AreTables, Becomes, BlobHand, Draws, Hand, IsBlobHandOf, IsOut, Refuses, State, Stays}
-use Rattle.bl_out.specs.Steps.{Acts, closed_blob, has_blob, index_at, store_value, with_blob_room, with_entry, with_large, with_room, with_table, with_value, with_written, closed_last}
+use Rattle.bl_out.specs.Outputs.{Out, OutBlob, OutTable, added, begins_table, blob_size, close_blob, close_table, entry_behind, goes_on, is_of_other, made_for, new_blob, new_table, on_last, open_size, passes, put_entry, put_record, record_of}
+use Rattle.bl_out.specs.States.{IsOrdered, Spans, AreBlobs, AreTables, Becomes, BlobHand, Hand, IsBlobHandOf, IsOut, State}
+use Rattle.bl_out.specs.Steps.{closed_blob, has_blob, index_at, store_value, with_blob_room, with_entry, with_large, with_room, with_table, with_value, with_written, closed_last}
 use Rattle.bl_out.specs.Written.{is_large, reference_to}
 use Rattle.bl_out.specs.declared.error.JobErr.{JobErr}
-use Rattle.bl_out.specs.declared.error.JobErr.TheVariants.{Full, OutOfMemory}
-use Rattle.bl_out.proofs.BecomeLemmas.{draws_join, ordered_blob, ordered_closed, ordered_later, ordered_table}
+use Rattle.bl_out.specs.declared.error.JobErr.TheVariants.{Full}
+use Rattle.bl_out.proofs.BecomeLemmas.{ordered_blob, ordered_closed, ordered_later, ordered_table}
 use Rattle.bl_out.proofs.HandLemmas.{ends_in_blob, ends_in_table, none_goes_on, last_behind, no_blob, on_last_behind}
 
 -- ---- the blob file in hand
@@ -48,8 +46,10 @@ blobs_as options e due bs front b is unclosed test = by due test
   where
     stored : on_last (store_value e) bs ≡ front ++ store_value e b ∷ []
     stored = ap (on_last (store_value e)) is ∙ on_last_behind (store_value e) front b
+
     put : on_last (put_record options e) bs ≡ front ++ put_record options e b ∷ []
     put = ap (on_last (put_record options e)) is ∙ on_last_behind (put_record options e) front b
+
     by : (d : Bool) → d ≡ nat_le options.blob_file_size (blob_size (b.records ++ record_of e ∷ [])) → (if d then on_last close_blob (on_last (store_value e) bs) else on_last (store_value e) bs) ≡ on_last (put_record options e) bs
     by true t = ap (on_last close_blob) stored ∙ on_last_behind close_blob front (store_value e b)
         ∙ ap (λ (c : Bool). front ++ record { number = b.number; records = b.records ++ record_of e ∷ []; closed = c } ∷ []) t ∙ sym put
@@ -63,7 +63,7 @@ closing_as false q = refl
 large_behind : (p : Out) (options : Values) (e w : Entry) (due : Bool) (front : List OutBlob) (b : OutBlob) (h : BlobHand) → p.blobs ≡ front ++ b ∷ [] → IsBlobHandOf b h → w ≡ reference_to (index_at h e) e
     → due ≡ nat_le options.blob_file_size (blob_size (b.records ++ record_of e ∷ []))
     → record (if due then closed_blob (with_entry w (with_value e p)) else with_entry w (with_value e p)) { given = p.given }
-        ≡ record p { tables = on_last (put_entry (entry_behind (last_of p.blobs) e)) p.tables; blobs = on_last (put_record options e) p.blobs }
+    ≡ record p { tables = on_last (put_entry (entry_behind (last_of p.blobs) e)) p.tables; blobs = on_last (put_record options e) p.blobs }
 large_behind p options e w due front b h is hand reference test =
     let q : Out = with_entry w (with_value e p) in
     let last : last_of p.blobs ≡ Some b = ap last_of is ∙ last_behind front b in
@@ -154,17 +154,6 @@ pub made_is : (o : Out) (e : Entry) (b l held : Bool) → begins_table o e ≡ b
 unfolding made_by
 made_is o e b l held begins large has = λ i. made_by (sym begins i) (sym large i) (sym has i)
 
-turned : (held : Bool) → ◌≡◌ {A = ℕ} (if held then 0 else 1) (if (true && not held) then 1 else 0)
-turned true = refl
-turned false = refl
-
--- where a value is large
-pub large_draws : (l held : Bool) (a b : State) (k m : ℕ) → l ≡ true → Draws (if held then 0 else 1) a b k m → Draws (if (l && not held) then 1 else 0) a b k m
-large_draws l held a b k m large draws = subst (λ (x : Bool). Draws (if (x && not held) then 1 else 0) a b k m) (sym large) (subst (λ (n : ℕ). Draws n a b k m) (turned held) draws)
-
-pub large_full : (l held : Bool) → l ≡ true → held ≡ false → l && not held ≡ true
-large_full l held large none = λ i. large i && not (none i)
-
 -- more files were to be made than numbers were left
 pub too_many : (b c : Bool) (next later : ℕ) → later ≡ (if b then next + 1 else next) → later ≡ 10 ^ 15 → c ≡ true → 10 ^ 15 < next + ((if b then 1 else 0) + (if c then 1 else 0))
 too_many true c next later is end test = subst (λ (x : Bool). 10 ^ 15 < next + (1 + (if x then 1 else 0))) (sym test) (omega arith)
@@ -196,7 +185,7 @@ begins_behind o e s h size other is hand sized differs =
     let last : last_of o.tables ≡ Some t = ap last_of r.is ∙ last_behind r.front t in
     let goes : begins_table o e ≡ not (goes_on o e t) = ap (λ (x : Option OutTable). not (passes (goes_on o e) x)) last in
     let same : not (goes_on o e t) ≡ not (not false && (s.one_table || not (nat_le s.options.table_size size && other))) =
-        λ i. not (not (r.hand.closed i) && (is.one i || not (nat_le (is.options i).table_size (sym (sized t.entries r.hand.spans) i) && sym (differs t.entries r.hand.spans) i))) in
+    λ i. not (not (r.hand.closed i) && (is.one i || not (nat_le (is.options i).table_size (sym (sized t.entries r.hand.spans) i) && sym (differs t.entries r.hand.spans) i))) in
     sym (goes ∙ same ∙ opposite s.one_table (nat_le s.options.table_size size && other))
 
 -- ---- causes
@@ -217,16 +206,6 @@ pub some_and : {A : Type 0} (o : Option A) (P : A → Type 0) → IsSomeAnd o P 
 some_and None P is = absurd is
 some_and (Some x) P is = (x, refl)
 
-pub if_and : {A : Type 0} (o : Option A) (P : A → Type 0) → IsSomeAnd o P → IfSome o P
-if_and None P is = absurd is
-if_and (Some x) P is = is
-
-pub drawn_usable : (s : State) (set : Bool) → AreDrawn s → AreDrawn (record s { failed = set })
-drawn_usable s set d = record { numbers = d.numbers; table = d.table; blob = d.blob; tables = d.tables; blobs = d.blobs }
-
-pub le_test : (a b : ℕ) → a ≤ b → nat_le a b ≡ true
-le_test a b le = grind (arith, nat_tests)
-
 -- the entry with its index in the place of its value
 pub proper_reference : (index : BlobIndex) (e : Entry) → IsProper e → IsNumber index.file → index.offset < 2 ^ 63 → index.size < 2 ^ 63 → IsProper (reference_to index e)
 proper_reference index e proper number offset size = record {
@@ -244,10 +223,4 @@ module _ {S : Type 0} (g : Ghosts S) where
     holds = first.holds;
     there = first.there;
     certain = first.certain;
-  }
-
-  pub refuses : {T : Type 0} (e : JobErr) (a b : State) (k l : ℕ) (s t : S) → a.failed ≡ false → Acts {T = T} g (Err e) a b s t → (b.failed ≡ false → Stays a b k l s t) → Refuses g e a b k l s t
-  refuses e a b k l s t usable acts stays = record {
-    asked = λ set. ⊎_elim (λ was. absurd (false≢true (sym usable ∙ was))) (λ how. ⊎_elim (λ rose. inl rose) (λ full. let is : e ≡ Full (10 ^ 15) = cc in inr is) how) (acts.asked set);
-    stays = λ unset. (acts.memory unset, stays unset);
   }

@@ -1,6 +1,6 @@
 -- Parts of a call, one after the other.
-use Rattle.std.proofs.Common.{◌≡◌, ◌≢◌, ℕ, zero, suc, ◌+◌, ◌<◌, ◌≤◌, Bool, true, false, List, [], ◌∷◌, ◌++◌, length, get_or, refl, sym, ◌∙◌, ap, subst, inl, inr, ⊎_elim, arith, append_assoc, append-nil}
-use Rattle.std.specs.Prelude.{◌⊎◌, ◌^◌, map, flat_map, Contains, Result, Ok, Err, IfErr, IsErrOf}
+use Rattle.std.proofs.Common.{◌≡◌, ◌≢◌, ℕ, zero, suc, ◌+◌, ◌<◌, ◌≤◌, true, false, List, [], ◌∷◌, ◌++◌, length, get_or, refl, sym, ◌∙◌, ap, subst, inl, inr, ⊎_elim, arith, append_assoc, append-nil}
+use Rattle.std.specs.Prelude.{◌⊎◌, ◌^◌, map, Contains, Result, Ok, Err, IfErr, IsErrOf}
 use Rattle.std.specs.List.{AllByRecursion, range_with_len}
 use Rattle.std.proofs.lemmas.Bool.{false≢true}
 use Rattle.std.proofs.lemmas.Grind.{flat_map-append}
@@ -14,10 +14,10 @@ use Rattle.bl_names.specs.declared.name.FileName.TheVariants.{Table, Blob}
 use Rattle.bl_entry.specs.declared.key.Entry.{Entry}
 use Rattle.bl_out.specs.Causes.{IsAddCause, IsSealCause}
 use Rattle.bl_out.specs.Held.{HoldsOut}
-use Rattle.bl_out.specs.Outputs.{Out, OutBlob, OutTable, new_blob, new_table, close_blob, close_table, on_last, put_entry}
+use Rattle.bl_out.specs.Outputs.{Out, OutBlob, OutTable, new_blob, new_table, close_table, on_last, put_entry}
 use Rattle.bl_out.specs.Quiet.{IsNoneOf, TouchesOnly}
 use Rattle.bl_out.specs.States.{AscendTo, Becomes, Draws, IsOrdered, IsOut, State, names_of}
-use Rattle.bl_out.specs.Steps.{Acts, closed_blob, closed_last, store_value, with_blob, with_entry, with_table, with_value}
+use Rattle.bl_out.specs.Steps.{Acts, closed_last, store_value, with_blob, with_entry, with_table, with_value}
 use Rattle.bl_out.specs.declared.error.JobErr.{JobErr}
 use Rattle.bl_out.specs.declared.error.JobErr.TheVariants.{Disk as disk_failed, Full, OutOfMemory}
 use Rattle.bl_out.proofs.FileLemmas.{all_front, ascend_later, ascend_more}
@@ -32,9 +32,6 @@ holds_given : (disk : Disk) (o : Out) (es : List Entry) → HoldsOut disk o → 
 holds_given disk o es held = record { sealed = held.sealed; others = held.others }
 
 module _ {S : Type 0} (g : Ghosts S) where
-  pub becomes_same : (next : ℕ) (s : State) (site : S) → Becomes g next (λ o. o) s s site site
-  becomes_same next s site = record { out = λ o is. is; holds = λ shown o is up held. held; there = λ shown there. there; certain = λ shown sure. sure }
-
   pub becomes_then : (next later : ℕ) (f h : Out → Out) (a b c : State) (s t u : S) → ((o : Out) → IsOut o a → IsOrdered next o → IsOrdered later (f o))
       → Becomes g next f a b s t → Becomes g later h b c t u → Becomes g next (λ o. h (f o)) a c s u
   becomes_then next later f h a b c s t u ordered first second = record {
@@ -103,9 +100,6 @@ draws_join m n a b c k l p first second =
 
 pub none_drawn : (n : ℕ) (a b : State) (k l : ℕ) → b.drawn ≡ a.drawn → l ≡ k → Draws n a b k l
 none_drawn n a b k l same next = record { made = 0; within = omega arith; drawn = same ∙ sym (append-nil a.drawn); next = omega arith }
-
-pub one_drawn : (a b : State) (k l : ℕ) → b.drawn ≡ a.drawn ++ k ∷ [] → l ≡ k + 1 → Draws 1 a b k l
-one_drawn a b k l more next = record { made = 1; within = omega arith; drawn = more; next = next }
 
 -- ---- names
 

@@ -1,15 +1,14 @@
 -- What the files hold where one of them changes.
-use Rattle.std.proofs.Common.{◌≡◌, ◌≢◌, ℕ, zero, suc, ◌+◌, ◌<◌, ◌≤◌, Bool, true, false, List, [], ◌∷◌, ◌++◌, length, take, drop, refl, sym, ◌∙◌, ap, subst, arith, Option, Some, None, append_assoc, append-nil, length-append}
+use Rattle.std.proofs.Common.{◌≡◌, ◌≢◌, ℕ, zero, suc, ◌+◌, ◌<◌, ◌≤◌, List, [], ◌∷◌, ◌++◌, length, take, drop, refl, sym, ◌∙◌, ap, subst, arith, Option, Some, None, append_assoc, append-nil, length-append}
 use Rattle.std.specs.Prelude.{map, IsSome, is_some}
 use Rattle.std.specs.List.{AllByRecursion}
 use Rattle.std.proofs.lemmas.List.{map-append, length-map}
 use Rattle.std.proofs.lemmas.Bool.{false≢true}
 use Rattle.bl_site.specs.Disk.{Disk, File, Name}
-use Rattle.bl_site.specs.Calls.{Appends, Creates, Puts}
+use Rattle.bl_site.specs.Calls.{Creates, Puts}
 use Rattle.bl_names.specs.Names.{IsNumber, NamesOne, name_of}
-use Rattle.bl_names.specs.declared.name.FileName.{FileName}
 use Rattle.bl_names.specs.declared.name.FileName.TheVariants.{Table, Blob}
-use Rattle.bl_out.specs.Held.{HoldsFile, HoldsOut, HoldsSealed, bytes_in, name_in}
+use Rattle.bl_out.specs.Held.{HoldsFile, HoldsSealed, bytes_in, name_in}
 use Rattle.bl_out.specs.Making.{Follows}
 use Rattle.bl_out.specs.Outputs.{OutBlob, OutFile, OutTable, TableOf, BlobOf}
 use Rattle.bl_out.specs.States.{AscendTo}

@@ -1,14 +1,13 @@
 -- The files of an output against those in memory.
-use Rattle.std.proofs.Common.{◌≡◌, ◌≢◌, ℕ, suc, ◌+◌, ◌<◌, ◌≤◌, Bool, true, false, List, [], ◌∷◌, ◌++◌, length, refl, sym, ◌∙◌, ap, subst, arith, Option, Some, None, append_assoc, append-nil}
-use Rattle.std.specs.Prelude.{◌&&◌, ◌||◌, not, map, IfSome, Contains}
+use Rattle.std.proofs.Common.{◌≡◌, ℕ, suc, false, List, [], ◌∷◌, ◌++◌, length, refl, sym, ap, subst, Option, Some, None}
+use Rattle.std.specs.Prelude.{not, IfSome}
 use Rattle.std.specs.List.{AllByRecursion}
-use Rattle.bl_names.specs.Names.{IsNumber}
 use Rattle.bl_entry.specs.declared.key.Entry.{Entry}
 use Rattle.bl_entry.specs.Entries.{last_of}
 use Rattle.bl_edit.specs.declared.edit.NewTable.{NewTable}
 use Rattle.bl_edit.specs.declared.edit.BlobAddition.{BlobAddition}
-use Rattle.bl_out.specs.Outputs.{Out, OutBlob, OutTable, close_blob, close_table, goes_on, on_last, passes}
-use Rattle.bl_out.specs.States.{AreBlobs, AreTables, AscendTo, BlobHand, Hand, IsBlobClosedAs, IsBlobHandOf, IsClosedAs, IsHandOf}
+use Rattle.bl_out.specs.Outputs.{Out, OutBlob, OutTable, close_table, goes_on, on_last, passes}
+use Rattle.bl_out.specs.States.{AreBlobs, AreTables, BlobHand, Hand, IsBlobClosedAs, IsBlobHandOf, IsClosedAs, IsHandOf}
 
 -- ---- the last one
 

@@ -1,6 +1,6 @@
 -- What becomes of an output by each part of a call.
-use Rattle.std.proofs.Common.{◌≡◌, ◌≢◌, ℕ, zero, suc, ◌+◌, ◌-◌, ◌<◌, ◌≤◌, Bool, true, false, List, [], ◌∷◌, ◌++◌, length, take, drop, refl, sym, ◌∙◌, ap, subst, arith, Option, Some, None, append_assoc, append-nil, length-append}
-use Rattle.std.specs.Prelude.{map, IfSome, IsSome, is_some, Contains, if◌then◌else◌, Result, Ok, Err, IfErr, OnErr, OnOk}
+use Rattle.std.proofs.Common.{◌≡◌, ◌≢◌, ℕ, ◌+◌, ◌-◌, ◌≤◌, Bool, true, false, List, [], ◌∷◌, ◌++◌, length, drop, refl, sym, ◌∙◌, ap, subst, arith, Option, Some, None, length-append}
+use Rattle.std.specs.Prelude.{IfSome, IsSome, is_some, Contains, if◌then◌else◌, Result, Ok, Err, IfErr, OnErr, OnOk}
 use Rattle.std.specs.Result.{IsErrAnd}
 use Rattle.std.specs.List.{AllByRecursion}
 use Rattle.std.proofs.lemmas.List.{drop-append-le}
@@ -13,18 +13,17 @@ use Rattle.bl_names.specs.Names.{IsNumber, NamesOne, name_of}
 use Rattle.bl_names.specs.declared.name.FileName.TheVariants.{Table, Blob}
 use Rattle.bl_entry.specs.declared.key.Entry.{Entry}
 use Rattle.bl_blob.specs.BlobFile.{Record, given, blob_file, totals_of}
-use Rattle.bl_blob.specs.declared.blob.Totals.{Totals}
 use Rattle.bl_edit.specs.declared.edit.NewTable.{NewTable}
 use Rattle.bl_edit.specs.declared.edit.BlobAddition.{BlobAddition}
 use Rattle.bl_table.specs.Spelling.{table}
-use Rattle.bl_out.specs.Held.{HoldsFile, HoldsOut}
+use Rattle.bl_out.specs.Held.{HoldsOut}
 use Rattle.bl_out.specs.Making.{Follows}
-use Rattle.bl_out.specs.Outputs.{Out, OutBlob, OutFile, OutTable, TableOf, BlobOf, addition_of, blob_bytes, close_blob, close_table, files_of, items_of, new_blob, new_table, on_last, open_bytes, put_entry, record_of, table_bytes}
+use Rattle.bl_out.specs.Outputs.{Out, OutBlob, OutTable, addition_of, blob_bytes, close_blob, close_table, items_of, new_blob, new_table, on_last, open_bytes, put_entry, record_of, table_bytes}
 use Rattle.bl_out.specs.Quiet.{IsNoneOf}
 use Rattle.bl_out.specs.declared.error.JobErr.{JobErr}
 use Rattle.bl_out.specs.declared.error.JobErr.TheVariants.{OutOfMemory}
 use Rattle.bl_out.proofs.BecomeLemmas.{not_blob, not_table}
-use Rattle.bl_out.specs.States.{names_of, AreBlobs, AreDrawn, AreTables, AreThere, AscendTo, Becomes, BlobHand, Hand, IsBlobHandOf, IsClosedAs, IsHandOf, IsOrdered, IsOut, Spans, State}
+use Rattle.bl_out.specs.States.{names_of, AreBlobs, AreDrawn, AreTables, Becomes, BlobHand, Hand, IsBlobHandOf, IsClosedAs, IsHandOf, IsOut, Spans, State}
 use Rattle.bl_out.specs.Steps.{closed_blob, closed_last, store_value, with_blob, with_entry, with_table, with_value}
 use Rattle.bl_out.proofs.FileLemmas.{all_both, all_to, still_there}
 use Rattle.bl_out.proofs.HandLemmas.{blobs_begin, blobs_close, ends_in_blob, ends_in_table, on_last_behind, tables_begin, tables_close, tables_closed}
@@ -76,9 +75,12 @@ module _ {S : Type 0} (g : Ghosts S) (one : NamesOne) (s : State) (d : AreDrawn 
         let on = there_on (g.disk old) (g.disk new) s (still_there (name_of (Table h.number)) _ (g.disk old) (g.disk new) (appended shown).puts) there in
         let last : IsSome (g.disk new (name_of (Table n.number))) = subst (λ (m : ℕ). IsSome (g.disk new (name_of (Table m)))) (sym number) (put_is (name_of (Table h.number)) _ (g.disk old) (g.disk new) (appended shown).puts) in
         let before : s.sealed - length s.tables ≡ 0 = omega arith in
-        let after : s.sealed - length (s.tables ++ n ∷ []) ≡ 0 = omega (arith, length-append s.tables (n ∷ [])) in
-        (tt, on.1, drop_behind (λ (t : NewTable). IsSome (g.disk new (name_of (Table t.number)))) s.sealed s.tables (n ∷ []) sealed on.2 (last, tt),
-          subst (λ (k : ℕ). AllByRecursion (λ (b : BlobAddition). IsSome (g.disk new (name_of (Blob b.number)))) (drop k s.blobs)) (before ∙ sym after) on.3);
+        let after : s.sealed - length (s.tables ++ n ∷ []) ≡ 0 = omega (arith, length-append s.tables (n ∷ [])) in (
+          tt,
+          on.1,
+          drop_behind (λ (t : NewTable). IsSome (g.disk new (name_of (Table t.number)))) s.sealed s.tables (n ∷ []) sealed on.2 (last, tt),
+          subst (λ (k : ℕ). AllByRecursion (λ (b : BlobAddition). IsSome (g.disk new (name_of (Blob b.number)))) (drop k s.blobs)) (before ∙ sym after) on.3,
+        );
     certain = certain;
   }
 
@@ -274,9 +276,6 @@ still_with name old new others here other was = by (new other) refl
 -- the same blob file is in hand
 pub drawn_same_blob : (s : State) (h k : BlobHand) (set : Bool) → s.blob ≡ Some h → k.number ≡ h.number → AreDrawn s → AreDrawn (record s { blob = Some k; failed = set })
 drawn_same_blob s h k set hand same d = record { numbers = d.numbers; table = d.table; blob = subst (Contains s.drawn) (sym same) (some_of s.blob h (λ (x : BlobHand). Contains s.drawn x.number) hand d.blob); tables = d.tables; blobs = d.blobs }
-
-pub drawn_same_table : (s : State) (h k : Hand) (set : Bool) → s.table ≡ Some h → k.number ≡ h.number → AreDrawn s → AreDrawn (record s { table = Some k; failed = set })
-drawn_same_table s h k set hand same d = record { numbers = d.numbers; table = subst (Contains s.drawn) (sym same) (some_of s.table h (λ (x : Hand). Contains s.drawn x.number) hand d.table); blob = d.blob; tables = d.tables; blobs = d.blobs }
 
 -- what holds at Ok
 pub on_ok : {T E P : Type 0} (r : Result T E) → ((x : T) → r ≡ Ok x → P) → OnOk r P

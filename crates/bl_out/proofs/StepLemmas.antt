@@ -1,27 +1,22 @@
 -- What each part of a call does to an output, its memory and its files.
-use Rattle.std.proofs.Common.{◌≡◌, ◌≢◌, ℕ, zero, suc, ◌+◌, ◌-◌, ◌<◌, ◌≤◌, Bool, true, false, List, [], ◌∷◌, ◌++◌, length, take, drop, refl, sym, ◌∙◌, ap, subst, arith, Option, Some, None, append_assoc, append-nil, length-append}
-use Rattle.std.specs.Prelude.{map, IfSome, IsSome, is_some, Contains}
+use Rattle.std.proofs.Common.{◌≡◌, ◌≢◌, ℕ, ◌+◌, ◌-◌, ◌<◌, ◌≤◌, List, [], ◌∷◌, ◌++◌, length, drop, refl, sym, ◌∙◌, ap, subst, arith, Option, Some, None}
+use Rattle.std.specs.Prelude.{map, IfSome, IsSome, Contains}
 use Rattle.std.specs.List.{AllByRecursion}
-use Rattle.std.proofs.lemmas.List.{drop-append-le}
-use Rattle.bl_site.specs.Disk.{Disk, File, Name}
-use Rattle.bl_site.specs.Calls.{Appends, Creates, Puts}
-use Rattle.bl_site.specs.declared.site.Site.{Ghosts}
+use Rattle.bl_site.specs.Disk.{Disk, Name}
+use Rattle.bl_site.specs.Calls.{Creates}
 use Rattle.bl_names.specs.Names.{IsNumber, NamesOne, name_of}
 use Rattle.bl_names.specs.declared.name.FileName.TheVariants.{Table, Blob}
-use Rattle.bl_entry.specs.declared.key.Entry.{Entry}
-use Rattle.bl_blob.specs.BlobFile.{Record, given, blob_file, totals_of}
-use Rattle.bl_blob.specs.declared.blob.Totals.{Totals}
 use Rattle.bl_edit.specs.declared.edit.NewTable.{NewTable}
 use Rattle.bl_edit.specs.declared.edit.BlobAddition.{BlobAddition}
-use Rattle.bl_table.specs.Spelling.{cut, table}
+use Rattle.bl_table.specs.Spelling.{cut}
 use Rattle.bl_out.specs.Held.{HoldsFile, HoldsOut}
 use Rattle.bl_out.specs.Making.{Follows}
-use Rattle.bl_out.specs.Outputs.{Out, OutBlob, OutFile, OutTable, TableOf, BlobOf, addition_of, blob_bytes, close_blob, close_table, files_of, items_of, new_blob, new_table, on_last, open_bytes, put_entry, record_of, table_bytes}
-use Rattle.bl_out.specs.States.{AreBlobs, AreDrawn, AreTables, AreThere, AscendTo, Becomes, BlobHand, Hand, IsBlobHandOf, IsClosedAs, IsHandOf, IsOrdered, IsOut, Spans, State}
-use Rattle.bl_out.specs.Steps.{closed_blob, closed_last, store_value, with_blob, with_entry, with_table, with_value}
+use Rattle.bl_out.specs.Outputs.{Out, OutBlob, OutTable, TableOf, BlobOf, blob_bytes, files_of, new_blob, new_table, on_last, table_bytes}
+use Rattle.bl_out.specs.States.{AreBlobs, AreDrawn, AreTables, AreThere, AscendTo, BlobHand, Hand, IsBlobHandOf, IsHandOf, IsOrdered, IsOut, State}
+use Rattle.bl_out.specs.Steps.{with_blob, with_table}
 use Rattle.bl_out.proofs.BecomeLemmas.{all_at}
-use Rattle.bl_out.proofs.FileLemmas.{HoldsFirst, Same, all_behind, all_both, all_front, all_to, all_two, begins_empty, below_last, below_next, blob_begins, blob_changes, blobs_differ, grows, kinds_differ, still_there, table_begins, table_changes, tables_differ}
-use Rattle.bl_out.proofs.HandLemmas.{blobs_begin, blobs_close, blobs_count, blobs_numbers, ends_in_blob, ends_in_table, on_last_behind, tables_begin, tables_close, tables_count, tables_numbers}
+use Rattle.bl_out.proofs.FileLemmas.{HoldsFirst, Same, all_front, all_to, all_two, begins_empty, below_last, below_next, blob_begins, blob_changes, blobs_differ, grows, kinds_differ, table_begins, table_changes, tables_differ}
+use Rattle.bl_out.proofs.HandLemmas.{blobs_count, blobs_numbers, ends_in_blob, ends_in_table, on_last_behind, tables_count, tables_numbers}
 
 -- ---- numbers of files
 
@@ -94,12 +89,12 @@ module _ (one : NamesOne) (s : State) (d : AreDrawn s) (old new : Disk) (next : 
       let long : o.sealed ≤ length e.front = omega (arith, is.sealed, tables_count e.front s.tables e.closed) in
       let name : name_of (Table h.number) ≡ name_of (Table e.last.number) = ap (λ (n : ℕ). name_of (Table n)) (sym e.hand.number) in
       let grown : HoldsFile old (TableOf e.last) → HoldsFile new (TableOf (c e.last)) = grows old new (TableOf e.last) (TableOf (c e.last)) (ap (λ (n : ℕ). name_of (Table n)) (same e.last))
-          (subst (λ (n : Name). Follows n (table_bytes e.last) (table_bytes (c e.last)) old new) name after) in
+      (subst (λ (n : Name). Follows n (table_bytes e.last) (table_bytes (c e.last)) old new) name after) in
       let goal : HoldsFirst new o.sealed (map TableOf (e.front ++ c e.last ∷ []) ++ map BlobOf o.blobs) =
-          table_changes old new o.sealed e.front e.last (c e.last) o.blobs long
-          (tables_same h.number is_h after.appends.puts.others e.front below_h (all_front (λ t. IsNumber t.number) e.front (e.last ∷ []) numbers))
-          (blobs_beside h.number is_h after.appends.puts.others o.blobs (blob_numbers o s is d)) grown
-          (subst (λ (ts : List OutTable). HoldsFirst old o.sealed (map TableOf ts ++ map BlobOf o.blobs)) e.is (first_holds old o held)) in
+      table_changes old new o.sealed e.front e.last (c e.last) o.blobs long
+      (tables_same h.number is_h after.appends.puts.others e.front below_h (all_front (λ t. IsNumber t.number) e.front (e.last ∷ []) numbers))
+      (blobs_beside h.number is_h after.appends.puts.others o.blobs (blob_numbers o s is d)) grown
+      (subst (λ (ts : List OutTable). HoldsFirst old o.sealed (map TableOf ts ++ map BlobOf o.blobs)) e.is (first_holds old o held)) in
       let last : on_last c o.tables ≡ e.front ++ c e.last ∷ [] = ap (on_last c) e.is ∙ on_last_behind c e.front e.last in
       holds_first new (record o { tables = on_last c o.tables }) (subst (λ (ts : List OutTable). HoldsFirst new o.sealed (map TableOf ts ++ map BlobOf o.blobs)) (sym last) goal)
 
@@ -115,12 +110,12 @@ module _ (one : NamesOne) (s : State) (d : AreDrawn s) (old new : Disk) (next : 
       let long : o.sealed ≤ length o.tables + length e.front = omega (arith, is.sealed, blobs_count e.front s.blobs e.closed, tables_at_least o.tables s.tables s.table is.tables) in
       let name : name_of (Blob h.number) ≡ name_of (Blob e.last.number) = ap (λ (n : ℕ). name_of (Blob n)) (sym e.hand.number) in
       let grown : HoldsFile old (BlobOf e.last) → HoldsFile new (BlobOf (c e.last)) = grows old new (BlobOf e.last) (BlobOf (c e.last)) (ap (λ (n : ℕ). name_of (Blob n)) (same e.last))
-          (subst (λ (n : Name). Follows n (blob_bytes e.last) (blob_bytes (c e.last)) old new) name after) in
+      (subst (λ (n : Name). Follows n (blob_bytes e.last) (blob_bytes (c e.last)) old new) name after) in
       let goal : HoldsFirst new o.sealed (map TableOf o.tables ++ map BlobOf (e.front ++ c e.last ∷ [])) =
-          blob_changes old new o.sealed o.tables e.front e.last (c e.last) long
-          (tables_beside h.number is_h after.appends.puts.others o.tables (table_numbers o s is d))
-          (blobs_same h.number is_h after.appends.puts.others e.front below_h (all_front (λ b. IsNumber b.number) e.front (e.last ∷ []) numbers)) grown
-          (subst (λ (bs : List OutBlob). HoldsFirst old o.sealed (map TableOf o.tables ++ map BlobOf bs)) e.is (first_holds old o held)) in
+      blob_changes old new o.sealed o.tables e.front e.last (c e.last) long
+      (tables_beside h.number is_h after.appends.puts.others o.tables (table_numbers o s is d))
+      (blobs_same h.number is_h after.appends.puts.others e.front below_h (all_front (λ b. IsNumber b.number) e.front (e.last ∷ []) numbers)) grown
+      (subst (λ (bs : List OutBlob). HoldsFirst old o.sealed (map TableOf o.tables ++ map BlobOf bs)) e.is (first_holds old o held)) in
       let last : on_last c o.blobs ≡ e.front ++ c e.last ∷ [] = ap (on_last c) e.is ∙ on_last_behind c e.front e.last in
       holds_first new (record o { blobs = on_last c o.blobs }) (subst (λ (bs : List OutBlob). HoldsFirst new o.sealed (map TableOf o.tables ++ map BlobOf bs)) (sym last) goal)
 

@@ -1,7 +1,6 @@
 -- What an output keeps in memory, and of which outputs it may be the memory: the entries and records that it wrote it forgets.
-use Rattle.std.specs.Prelude.{◌≡◌, ◌⊎◌, ℕ, ◌+◌, ◌^◌, ◌<◌, ◌≤◌, ◌-◌, take, drop, Bool, true, false, List, [], ◌∷◌, ◌++◌, length, map, flat_map, Option, None, Some, IfSome, IsSome, IfErr, Result, Err, min, max, Contains}
+use Rattle.std.specs.Prelude.{◌≡◌, ◌⊎◌, ℕ, ◌+◌, ◌^◌, ◌<◌, ◌≤◌, ◌-◌, drop, Bool, true, false, List, [], ◌∷◌, ◌++◌, length, map, flat_map, Option, None, Some, IfSome, IsSome, min, max, Contains}
 use Rattle.std.specs.List.{AllByRecursion, fold, range_with_len}
-use Rattle.std.specs.Option.{option_map}
 use Rattle.bl_site.specs.Disk.{Disk, Name}
 use Rattle.bl_site.specs.Causes.{Rose}
 use Rattle.bl_site.specs.declared.site.Site.{Ghosts}

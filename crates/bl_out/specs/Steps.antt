@@ -1,5 +1,5 @@
 -- The parts of which taking an entry is made.
-use Rattle.std.specs.Prelude.{◌≡◌, ◌⊎◌, ℕ, ◌+◌, ◌^◌, ◌≤◌, nat_le, not, Bool, true, false, List, [], ◌∷◌, ◌++◌, length, Result, IfErr, IsErrOf, IsSomeAnd, if◌then◌else◌}
+use Rattle.std.specs.Prelude.{◌≡◌, ◌⊎◌, ℕ, ◌+◌, ◌^◌, not, Bool, true, false, [], ◌∷◌, ◌++◌, length, Result, IfErr, IsErrOf, IsSomeAnd, if◌then◌else◌}
 use Rattle.bl_site.specs.Causes.{Rose}
 use Rattle.bl_site.specs.Disk.{Name}
 use Rattle.bl_site.specs.Quiet.{TellsNothing}
@@ -7,7 +7,6 @@ use Rattle.bl_site.specs.declared.site.Site.{Ghosts}
 use Rattle.bl_entry.specs.declared.key.Entry.{Entry}
 use Rattle.bl_entry.specs.Entries.{last_of}
 use Rattle.bl_index.specs.declared.index.BlobIndex.{BlobIndex}
-use Rattle.bl_edit.specs.Options.{Values}
 use Rattle.bl_names.specs.Names.{name_of}
 use Rattle.bl_out.specs.Causes.{IsAddCause}
 use Rattle.bl_out.specs.Held.{name_in}

@@ -1,11 +1,11 @@
-use Rattle.std.proofs.Common.{◌≡◌, ◌+◌, ◌<◌, ℕ, Bool, true, false, refl, sym, ◌∙◌, ap, subst, Err}
+use Rattle.std.proofs.Common.{◌≡◌, ◌+◌, ◌<◌, ℕ, false, sym, ◌∙◌, ap, subst, Err}
 use Rattle.std.specs.Prelude.{◌^◌, ◌&&◌, not, is_some, if◌then◌else◌}
 use Rattle.std.specs.List.{range_with_len}
 use Rattle.std.proofs.lemmas.Result.{err_from_is_err_and}
 use Rattle.bl_edit.specs.Options.{Values}
-use Rattle.bl_out.specs.Outputs.{Out, added, begins_table, made_for}
+use Rattle.bl_out.specs.Outputs.{added, made_for}
 use Rattle.bl_out.specs.Quiet.{TouchesOnly}
-use Rattle.bl_out.specs.States.{Becomes, Draws, IsOut, State, names_of}
+use Rattle.bl_out.specs.States.{Becomes, Draws, State, names_of}
 use Rattle.bl_out.specs.Steps.{has_blob, with_room, with_written}
 use Rattle.bl_out.specs.Written.{is_large}
 use Rattle.bl_out.proofs.AddLemmas.{becomes_usable, has_blob_is, made_is, ordered_room, too_many, written_added}
@@ -47,7 +47,7 @@ returns-clause-added g c =
     let after = c.in_ok-make_room.ensures.next in
     let both = becomes_then g.S.Site next later (with_room b next) (with_written l later e) a mid z s t u (λ o is up. ordered_room b next later o after up) c.in_ok-make_room.ensures.becomes c.in_ok-write_entry.ensures.becomes in
     let whole : Becomes g.S.Site next (λ o. added next o e) a z s u = becomes_as g.S.Site next (λ o. with_written l later e (with_room b next o)) (λ o. added next o e) a z s u
-        (λ o is. written_added next later o e b l (sym (c.begins_table-begins.ensures.begins o is)) (ap (λ (v : Values). is_large v.min_blob_size e) (is.options ∙ sym c.make_room.ensures.keeps.options)) after) both in
+    (λ o is. written_added next later o e b l (sym (c.begins_table-begins.ensures.begins o is)) (ap (λ (v : Values). is_large v.min_blob_size e) (is.options ∙ sym c.make_room.ensures.keeps.options)) after) both in
     subst (λ (x : State). Becomes g.S.Site next (λ o. added next o e) a (record x { failed = false }) s u) (sym c.self.view_is) (becomes_usable g.S.Site next (λ o. added next o e) a z s u false whole)
 
 pub returns-clause-draws : goal.returns-clause-draws
@@ -58,7 +58,7 @@ returns-clause-draws g c = λ o is.
     let has : has_blob o ≡ held = has_blob_is o a is ∙ ap is_some (sym c.make_room.ensures.blob) in
     let made = made_is o e b l held (sym (c.begins_table-begins.ensures.begins o is)) large has in
     let d : Draws (made_for o e) a c.write_entry.new.self c.args.numbers.now c.write_entry.new.numbers = subst (λ (m : ℕ). Draws m a c.write_entry.new.self c.args.numbers.now c.write_entry.new.numbers) made
-        (draws_join (if b then 1 else 0) (if (l && not held) then 1 else 0) a mid c.write_entry.new.self c.args.numbers.now c.make_room.new.numbers c.write_entry.new.numbers c.make_room.ensures.draws c.write_entry.ensures.draws) in
+    (draws_join (if b then 1 else 0) (if (l && not held) then 1 else 0) a mid c.write_entry.new.self c.args.numbers.now c.make_room.new.numbers c.write_entry.new.numbers c.make_room.ensures.draws c.write_entry.ensures.draws) in
     record { made = d.made; within = d.within; drawn = ap (λ (x : State). x.drawn) c.self.view_is ∙ d.drawn; next = d.next }
 
 pub returns-clause-touches : goal.returns-clause-touches

@@ -1,14 +1,12 @@
-use Rattle.std.proofs.Common.{◌≡◌, ◌≤◌, ◌+◌, ℕ, Bool, true, false, List, [], ◌++◌, refl, sym, ◌∙◌, ap, subst, arith, Some, append-nil, Ok, Err}
+use Rattle.std.proofs.Common.{◌≡◌, ◌≤◌, ◌+◌, [], ◌++◌, sym, ◌∙◌, ap, Some, append-nil, Ok}
 use Rattle.std.specs.Prelude.{nat_le, is_some, if◌then◌else◌}
-use Rattle.std.specs.List.{range_with_len}
 use Rattle.std.proofs.lemmas.Bool.{false≢true}
 use Rattle.std.proofs.lemmas.Result.{err_from_is_err_and}
 use Rattle.bl_edit.specs.Options.{Values}
 use Rattle.bl_entry.specs.declared.key.Entry.{Entry}
 use Rattle.bl_out.specs.Outputs.{Out}
-use Rattle.bl_out.specs.States.{Becomes, BlobHand, IsOut, State}
-use Rattle.bl_out.specs.Steps.{Acts, closed_blob, with_blob_room, with_entry, with_large, with_value}
-use Rattle.bl_out.specs.declared.error.JobErr.{JobErr}
+use Rattle.bl_out.specs.States.{Becomes}
+use Rattle.bl_out.specs.Steps.{closed_blob, with_blob_room, with_entry, with_large, with_value}
 use Rattle.bl_out.proofs.AddLemmas.{has_blob_is, large_as, no_full, not_full, ordered_blob_room, some_and, some_from}
 use Rattle.bl_out.proofs.BecomeLemmas.{acts_join, acts_stop, becomes_as, becomes_then, ordered_entry, ordered_value}
 use Rattle.bl_out.proofs.PartLemmas.{at_ok, on_err, on_ok}
@@ -62,7 +60,7 @@ returns-clause-becomes g c =
     let r = c.close_full_blob.result in
     let one : Becomes g.S.Site next (λ o. with_value entry (with_blob_room held next o)) a d s u = becomes_then g.S.Site next (next + 1) (with_blob_room held next) (with_value entry) a b d s t u (λ o out up. ordered_blob_room held next o up) first.becomes (second.becomes (next + 1)) in
     let two : Becomes g.S.Site next (λ o. with_entry w (with_value entry (with_blob_room held next o))) a e s v = becomes_then g.S.Site next (next + 1) (λ o. with_value entry (with_blob_room held next o)) (with_entry w) a d e s u v
-        (λ o out up. ordered_value (next + 1) entry (with_blob_room held next o) (ordered_blob_room held next o up)) one (third.becomes (next + 1)) in
+    (λ o out up. ordered_value (next + 1) entry (with_blob_room held next o) (ordered_blob_room held next o up)) one (third.becomes (next + 1)) in
     let options : e.options ≡ a.options = third.keeps.options ∙ second.keeps.options ∙ first.keeps.options in
     on_ok r (λ x is.
     becomes_as g.S.Site next (λ o. close (with_entry w (with_value entry (with_blob_room held next o)))) (with_large next entry) a z s y

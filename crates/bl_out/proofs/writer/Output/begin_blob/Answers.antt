@@ -1,16 +1,16 @@
-use Rattle.std.proofs.Common.{◌≡◌, ◌≤◌, ◌+◌, ℕ, List, Bool, length, refl, sym, ◌∙◌, ap, subst, arith, true, false, Some, None, [], ◌∷◌, ◌++◌}
+use Rattle.std.proofs.Common.{◌≡◌, ◌+◌, ℕ, Bool, length, refl, sym, ◌∙◌, ap, subst, arith, true, false, Some, None, [], ◌∷◌, ◌++◌}
 use Rattle.bl_blob.specs.BlobFile.{totals_of}
 use Rattle.std.specs.Prelude.{is_some}
 use Rattle.std.proofs.lemmas.Result.{err_from_is_err_and}
 use Rattle.bl_site.specs.Calls.{Creates}
 use Rattle.bl_site.specs.Disk.{Name}
 use Rattle.bl_names.specs.Names.{IsNumber, name_of}
-use Rattle.bl_names.specs.declared.name.FileName.TheVariants.{Table, Blob}
-use Rattle.bl_out.specs.States.{AreDrawn, Becomes, BlobHand, Draws, Hand, State}
-use Rattle.bl_out.specs.Steps.{Acts, with_blob_room}
+use Rattle.bl_names.specs.declared.name.FileName.TheVariants.{Blob}
+use Rattle.bl_out.specs.States.{Becomes, BlobHand}
+use Rattle.bl_out.specs.Steps.{with_blob_room}
 use Rattle.bl_out.specs.contracts.writer.Output.{the_view}
-use Rattle.bl_out.proofs.BecomeLemmas.{acts_once, acts_still, none_drawn}
-use Rattle.bl_out.proofs.PartLemmas.{memory_of, drawn_more, drawn_blob, new_blob_among, none_is, none_sealed, not_set, blob_starts}
+use Rattle.bl_out.proofs.BecomeLemmas.{acts_once}
+use Rattle.bl_out.proofs.PartLemmas.{drawn_more, drawn_blob, new_blob_among, none_is, none_sealed, not_set, blob_starts}
 use Rattle.bl_out.proofs.writer.Output.begin_blob.Goals as goal
 
 pub invariant_of-self-in_err-create : goal.invariant_of-self-in_err-create

@@ -1,4 +1,4 @@
-use Rattle.std.proofs.Common.{◌≡◌, ◌∙◌, sym, ap, Some, None}
+use Rattle.std.proofs.Common.{◌≡◌, ◌∙◌, sym, ap, Some}
 use Rattle.std.specs.Prelude.{nat_le, not, ◌&&◌}
 use Rattle.bl_out.specs.States.{State}
 use Rattle.bl_out.proofs.AddLemmas.{begins_behind, begins_without}

@@ -1,12 +1,9 @@
-use Rattle.std.proofs.Common.{◌≡◌, ◌≤◌, ◌+◌, ℕ, List, length, refl, sym, ◌∙◌, ap, subst, Some, arith}
+use Rattle.std.proofs.Common.{◌≡◌, ◌≤◌, ◌+◌, length, refl, sym, ◌∙◌, ap, subst, Some, arith}
 use Rattle.bl_site.specs.Calls.{Appends}
 use Rattle.bl_site.specs.Disk.{Name}
 use Rattle.std.proofs.lemmas.Result.{err_from_is_err_and}
-use Rattle.bl_names.specs.Names.{name_of}
-use Rattle.bl_names.specs.declared.name.FileName.TheVariants.{Blob}
 use Rattle.bl_blob.specs.declared.blob.Totals.{Totals}
-use Rattle.bl_out.specs.States.{AreDrawn, BlobHand, State}
-use Rattle.bl_out.specs.Steps.{Acts}
+use Rattle.bl_out.specs.States.{BlobHand, State}
 use Rattle.bl_out.specs.contracts.writer.Output.{the_view}
 use Rattle.bl_out.proofs.BecomeLemmas.{acts_once}
 use Rattle.bl_out.proofs.PartLemmas.{blob_among, blob_closes}

@@ -1,7 +1,7 @@
-use Rattle.std.proofs.Common.{◌≡◌, ◌+◌, ℕ, Bool, true, false, refl, sym, ◌∙◌, ap, subst, arith, rules, Some}
+use Rattle.std.proofs.Common.{◌≡◌, ◌+◌, ℕ, Bool, true, sym, ◌∙◌, ap, subst, Some}
 use Rattle.std.specs.Prelude.{nat_le, is_some, if◌then◌else◌}
 use Rattle.bl_out.specs.Outputs.{Out}
-use Rattle.bl_out.specs.States.{Becomes, BlobHand, State}
+use Rattle.bl_out.specs.States.{Becomes, State}
 use Rattle.bl_out.specs.Steps.{closed_blob}
 use Rattle.bl_out.proofs.FileLemmas.{some_is}
 use Rattle.bl_out.proofs.PartLemmas.{at_ok, on_ok}

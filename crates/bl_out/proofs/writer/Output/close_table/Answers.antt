@@ -4,8 +4,7 @@ use Rattle.bl_site.specs.Disk.{Name}
 use Rattle.std.proofs.lemmas.Result.{err_from_is_err_and}
 use Rattle.bl_names.specs.Names.{name_of}
 use Rattle.bl_names.specs.declared.name.FileName.TheVariants.{Table}
-use Rattle.bl_out.specs.States.{AreDrawn, Hand, State}
-use Rattle.bl_out.specs.Steps.{Acts}
+use Rattle.bl_out.specs.States.{Hand}
 use Rattle.bl_out.specs.contracts.writer.Output.{the_view}
 use Rattle.bl_out.proofs.BecomeLemmas.{acts_once, acts_still}
 use Rattle.bl_out.proofs.PartLemmas.{memory_of, nothing_closes, table_among, table_closes}

@@ -1,4 +1,4 @@
-use Rattle.std.proofs.Common.{◌≡◌, ℕ, Bool, true, false, refl, sym, ◌∙◌, ap, subst, rules, arith}
+use Rattle.std.proofs.Common.{◌≡◌, Bool, true, sym, subst, rules, arith}
 use Rattle.std.specs.List.{range_with_len}
 use Rattle.bl_out.specs.States.{Becomes}
 use Rattle.bl_out.specs.Steps.{closed_last, with_room, with_table}

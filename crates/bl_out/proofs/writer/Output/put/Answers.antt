@@ -1,12 +1,9 @@
-use Rattle.std.proofs.Common.{◌≡◌, ◌≤◌, ◌+◌, ℕ, List, [], ◌∷◌, ◌++◌, length, refl, sym, ◌∙◌, ap, subst, arith, true, false, Some, inl, inr, ⊎_elim}
+use Rattle.std.proofs.Common.{◌≡◌, [], ◌∷◌, length, refl, inl, inr, ⊎_elim}
 use Rattle.std.proofs.lemmas.Result.{IfErr-weaker}
-use Rattle.bl_site.specs.Disk.{Name}
 use Rattle.bl_names.specs.Names.{name_of}
 use Rattle.bl_names.specs.declared.name.FileName.TheVariants.{Table}
-use Rattle.bl_out.specs.States.{AreDrawn, Hand, State, names_of}
-use Rattle.bl_out.specs.Steps.{Acts}
+use Rattle.bl_out.specs.States.{names_of}
 use Rattle.bl_out.specs.contracts.writer.Output.{the_view}
-use Rattle.bl_out.specs.declared.error.JobErr.TheVariants.{OutOfMemory}
 use Rattle.bl_out.proofs.BecomeLemmas.{seal_causes}
 use Rattle.bl_out.proofs.QuietLemmas.{touches_more}
 use Rattle.bl_out.proofs.PartLemmas.{at_ok, entry_goes, none_sealed, on_ok, still_with, table_among}

@@ -1,13 +1,11 @@
-use Rattle.std.proofs.Common.{◌≡◌, ◌≤◌, ◌+◌, ℕ, List, [], ◌∷◌, ◌++◌, length, refl, sym, ◌∙◌, ap, subst, arith, true, false, Some}
+use Rattle.std.proofs.Common.{◌≡◌, ◌+◌, [], ◌∷◌, ◌++◌, length, refl, ◌∙◌, ap, subst, arith, true}
 use Rattle.std.proofs.lemmas.Result.{err_from_is_err_and}
-use Rattle.bl_site.specs.Disk.{Name}
 use Rattle.bl_names.specs.Names.{name_of}
 use Rattle.bl_names.specs.declared.name.FileName.TheVariants.{Blob}
 use Rattle.bl_blob.specs.BlobFile.{Record, given, totals_of}
 use Rattle.bl_out.specs.Making.{Follows}
 use Rattle.bl_out.specs.Outputs.{record_of}
-use Rattle.bl_out.specs.States.{AreDrawn, BlobHand, State}
-use Rattle.bl_out.specs.Steps.{Acts}
+use Rattle.bl_out.specs.States.{BlobHand}
 use Rattle.bl_out.specs.contracts.writer.Output.{the_view}
 use Rattle.bl_out.proofs.BecomeLemmas.{acts_once}
 use Rattle.bl_out.proofs.PartLemmas.{blob_among, drawn_same_blob, none_sealed, not_set, still_with, value_goes}

@@ -1,4 +1,4 @@
-use Rattle.std.proofs.Common.{◌≡◌, Bool, true, false, sym, ◌∙◌, subst}
+use Rattle.std.proofs.Common.{◌≡◌, Bool, false, sym, ◌∙◌, subst}
 use Rattle.bl_out.specs.States.{Becomes}
 use Rattle.bl_out.specs.Steps.{with_written}
 use Rattle.bl_out.specs.Written.{is_large}
