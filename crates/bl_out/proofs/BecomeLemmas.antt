@@ -174,6 +174,7 @@ module _ {S T : Type 0} (g : Ghosts S) where
     changes = inl refl;
     was_set = λ set. set;
     asked = λ set. inl set;
+    still = λ unset. (refl, refl);
     memory = memory_alone result (s.failed ≡ false) memory;
     causes = memory_cause result memory;
     disk = λ is. absurd (not_disk result memory is);
@@ -188,12 +189,17 @@ module _ {S T : Type 0} (g : Ghosts S) where
     changes = inr asked;
     was_set = λ was. set;
     asked = λ is. inr (inl asked);
+    still = λ unset. absurd (false≢true (sym unset ∙ set));
     memory = never result (b.failed ≡ false) (λ unset. false≢true (sym unset ∙ set));
     causes = seal_causes result causes;
     disk = disk;
   }
 
 -- ---- the next part of a call
+
+not_set : (a b : Bool) → (a ≡ true → b ≡ true) → b ≡ false → a ≡ false
+not_set true b stays unset = absurd (false≢true (sym unset ∙ stays refl))
+not_set false b stays unset = refl
 
 module _ {S T U : Type 0} (g : Ghosts S) where
   pub acts_join : (x : T) (result : Result U JobErr) (a b c : State) (s t u : S) (ns : List ℕ) → (g.shows → g.certain s → g.certain t) → c.drawn ≡ b.drawn ++ ns
@@ -209,6 +215,7 @@ module _ {S T U : Type 0} (g : Ghosts S) where
         (λ mid. ⊎_elim (λ was. inl was) (λ how. ⊎_elim (λ rose. inr (inl (rose_later (g.changes s) (g.changes t) (g.changes u) rose second.changes))) (λ full. absurd cc) how) (first.asked mid))
         (λ how. ⊎_elim (λ rose. inr (inl (rose_before (g.changes s) (g.changes t) (g.changes u) first.changes rose))) (λ full. inr (inr full)) how)
         (second.asked set);
+    still = λ unset. let last = second.still unset in let before = first.still (not_set b.failed c.failed second.was_set unset) in (last.0 ∙ before.0, last.1 ∙ before.1);
     memory = second.memory;
     causes = second.causes;
     disk = λ is. fault_before (g.disk_faults s) (g.disk_faults t) (g.disk_faults u) first.tells_nothing.later (second.disk is);
@@ -222,6 +229,7 @@ module _ {S T U : Type 0} (g : Ghosts S) where
     changes = first.changes;
     was_set = first.was_set;
     asked = λ set. ⊎_elim (λ was. inl was) (λ how. ⊎_elim (λ rose. inr (inl rose)) (λ full. let is : e ≡ Full (10 ^ 15) = cc in inr (inr (ap Err is))) how) (first.asked set);
+    still = first.still;
     memory = first.memory;
     causes = first.causes;
     disk = λ is. let what : e ≡ disk_failed = cc in first.disk (ap Err what);

@@ -95,6 +95,7 @@ pub record Acts {S T : Type 0} (g : Ghosts S) (result : Result T JobErr) (old ne
   pub changes : (g.changes site_new ≡ g.changes site_old) ⊎ Rose (g.changes site_old) (g.changes site_new)
   pub was_set : old.failed ≡ true → new.failed ≡ true
   pub asked : new.failed ≡ true → (old.failed ≡ true) ⊎ (Rose (g.changes site_old) (g.changes site_new) ⊎ IsErrOf result (Full (10 ^ 15)))
+  pub still : new.failed ≡ false → (site_new ≡ site_old) × (new.drawn ≡ old.drawn)
   pub memory : IfErr result (λ e. new.failed ≡ false → e ≡ OutOfMemory)
   pub causes : IfErr result IsAddCause
   pub disk : IsErrOf result Disk → Rose (g.disk_faults site_old) (g.disk_faults site_new)

@@ -16,7 +16,7 @@ ghost use Rattle.bl_out.specs.Tables.{least_of};
 ghost use Rattle.bl_out.specs.States.{IsClosedAs, IsHandOf, Spans, oldest_in};
 ghost use Rattle.bl_out.specs.declared.error.JobErr.TheVariants.{Disk, OutOfMemory};
 ghost use Rattle.bl_out.specs.Causes.{IsSealCause};
-ghost use Rattle.bl_out.specs.Making.{Follows};
+ghost use Rattle.bl_out.specs.Making.{Follows, IsSetOnceAsked};
 ghost use Rattle.bl_out.specs.Quiet.{TouchesOnly};
 
 use crate::append::append;
@@ -240,9 +240,7 @@ impl TableInHand {
         ensures still { S.shows → OnOk result (IsSome (S.disk site.new (name_of (Table self.old.number)))) }
         ensures number { self.new.number ≡ self.old.number }
         ensures stays { IfErr result (λ e. failed.new ≡ false → (e ≡ OutOfMemory) × (self.new ≡ self.old) × (site.new ≡ site.old)) }
-        ensures was_set { failed.old ≡ true → failed.new ≡ true }
-        ensures asked { failed.new ≡ true → (failed.old ≡ true) ⊎ Rose (S.changes site.old) (S.changes site.new) }
-        ensures changes { (S.changes site.new ≡ S.changes site.old) ⊎ Rose (S.changes site.old) (S.changes site.new) }
+        ensures flag { IsSetOnceAsked S.Site failed.old failed.new site.old site.new }
         ensures certain { S.shows → S.certain site.old → S.certain site.new }
         ensures touches { TouchesOnly S.Site (name_of (Table self.old.number) ∷ []) site.old site.new }
         ensures tells_nothing { TellsNothing S.Site site.old site.new }

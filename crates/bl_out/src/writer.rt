@@ -165,6 +165,8 @@ impl Output {
         ensures draws { (o : Out) → IsOut o self.old → Draws (made_for o entry.now) self.old self.new numbers.old numbers.new }
         ensures full { (o : Out) → IsOut o self.old → (n : ℕ) → result ≡ Err (Full n) → (numbers.new ≡ 10 ^ 15) × (10 ^ 15 < numbers.old + made_for o entry.now) }
         ensures refused { IfErr result (λ e. Refuses S.Site e self.old self.new numbers.old numbers.new site.old site.new) }
+        // At Ok the folder was asked, or no file begins and the site is as it was.
+        ensures asked { OnOk result (Rose (S.changes site.old) (S.changes site.new) ⊎ ((site.new ≡ site.old) × (numbers.new ≡ numbers.old))) }
         ensures touches { TouchesOnly S.Site (names_of self.new.drawn) site.old site.new }
         ensures tells_nothing { TellsNothing S.Site site.old site.new }
         ensures causes { IfErr result IsAddCause }

@@ -66,3 +66,10 @@ returns-clause-touches g c =
     subst (λ (x : State). TouchesOnly g.S.Site (names_of x.drawn) c.args.site.now c.write_entry.new.site) (sym c.self.view_is)
     (acts_join g.S.Site c.in_ok-make_room.field-0 c.write_entry.result c.args.self.now c.make_room.new.self c.write_entry.new.self c.args.site.now c.make_room.new.site c.write_entry.new.site
     (range_with_len c.make_room.new.numbers c.write_entry.ensures.draws.made) c.in_ok-make_room.ensures.becomes.certain c.write_entry.ensures.draws.drawn c.in_ok-make_room.ensures.acts c.write_entry.ensures.acts).touches
+
+pub returns-clause-asked : goal.returns-clause-asked
+returns-clause-asked g c =
+    let a = c.args.self.now in let z = c.write_entry.new.self in
+    let all = acts_join g.S.Site c.in_ok-make_room.field-0 c.write_entry.result a c.make_room.new.self z c.args.site.now c.make_room.new.site c.write_entry.new.site
+        (range_with_len c.make_room.new.numbers c.write_entry.ensures.draws.made) c.in_ok-make_room.ensures.becomes.certain c.write_entry.ensures.draws.drawn c.in_ok-make_room.ensures.acts c.write_entry.ensures.acts in
+    ?

@@ -31,9 +31,10 @@ returns-clause-acts g c =
     rw (← c.self.view_is) (record {
       touches = touches_more g.S.Site (name ∷ []) (names_of s.drawn) c.args.site.now c.write.new.site (table_among s h c.in-Some.is c.self.invariant.0 name refl) a.touches;
       tells_nothing = a.tells_nothing;
-      changes = a.changes;
-      was_set = a.was_set;
-      asked = λ set. ⊎_elim (λ was. inl was) (λ rose. inr (inl rose)) (a.asked set);
+      changes = a.flag.changes;
+      was_set = a.flag.was_set;
+      asked = λ set. ⊎_elim (λ was. inl was) (λ rose. inr (inl rose)) (a.flag.asked set);
+      still = λ unset. (a.flag.still unset, refl);
       memory = IfErr-weaker c.write.result _ _ (λ e stays unset. (stays unset).0) a.stays;
       causes = seal_causes c.write.result a.causes;
       disk = a.disk;
