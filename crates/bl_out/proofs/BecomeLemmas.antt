@@ -32,6 +32,9 @@ holds_given : (disk : Disk) (o : Out) (es : List Entry) → HoldsOut disk o → 
 holds_given disk o es held = record { sealed = held.sealed; others = held.others }
 
 module _ {S : Type 0} (g : Ghosts S) where
+  pub becomes_same : (next : ℕ) (s : State) (site : S) → Becomes g next (λ o. o) s s site site
+  becomes_same next s site = record { out = λ o is. is; holds = λ shown o is up held. held; there = λ shown there. there; certain = λ shown sure. sure }
+
   pub becomes_then : (next later : ℕ) (f h : Out → Out) (a b c : State) (s t u : S) → ((o : Out) → IsOut o a → IsOrdered next o → IsOrdered later (f o))
       → Becomes g next f a b s t → Becomes g later h b c t u → Becomes g next (λ o. h (f o)) a c s u
   becomes_then next later f h a b c s t u ordered first second = record {

@@ -1,6 +1,6 @@
 -- What becomes of an output where a file is sealed.
-use Rattle.std.proofs.Common.{◌≡◌, ◌≢◌, ℕ, zero, suc, ◌+◌, ◌-◌, ◌<◌, ◌≤◌, Bool, true, false, List, [], ◌∷◌, ◌++◌, length, get_or, take, drop, refl, sym, ◌∙◌, ap, subst, arith, inl, inr, ⊎_elim, Option, Some, None, append_assoc, append-nil, length-append}
-use Rattle.std.specs.Prelude.{Decides, ◌⊎◌, map, nat_le, nat_lt, slice_get, IfSome, IsSome, IsSomeAnd, is_some, Contains, Result, Ok, Err, IfOk, if◌then◌else◌}
+use Rattle.std.proofs.Common.{◌≡◌, ◌≢◌, ℕ, zero, suc, ◌+◌, ◌-◌, ◌<◌, ◌≤◌, Bool, true, false, List, [], ◌∷◌, ◌++◌, length, get_or, drop, refl, sym, ◌∙◌, ap, subst, arith, inl, inr, ⊎_elim, Option, Some, None, append-nil, length-append}
+use Rattle.std.specs.Prelude.{Decides, ◌⊎◌, map, nat_le, nat_lt, slice_get, IsSome, IsSomeAnd, Contains, Result, Ok, Err, IfOk, if◌then◌else◌}
 use Rattle.std.specs.List.{AllByRecursion}
 use Rattle.std.proofs.lemmas.Bool.{false≢true}
 use Rattle.std.proofs.lemmas.List.{length-map}
@@ -9,18 +9,18 @@ use Rattle.std.proofs.lemmas.Option.{slice_get_past}
 use Rattle.std.proofs.lemmas.Slice.Eq.{bytes_eq-Decides}
 use Rattle.std.proofs.lemmas.Bool.Decides.{nat_tests}
 use Rattle.bl_site.specs.Disk.{Disk, File, Name}
-use Rattle.bl_site.specs.Calls.{Puts, Syncs}
+use Rattle.bl_site.specs.Calls.{Syncs}
 use Rattle.bl_site.specs.declared.site.Site.{Ghosts}
 use Rattle.bl_names.specs.Names.{name_of}
 use Rattle.bl_names.specs.declared.name.FileName.TheVariants.{Table, Blob}
 use Rattle.bl_edit.specs.declared.edit.NewTable.{NewTable}
 use Rattle.bl_edit.specs.declared.edit.BlobAddition.{BlobAddition}
-use Rattle.bl_out.specs.Held.{HoldsFile, HoldsOut, HoldsSealed, bytes_in, name_in}
-use Rattle.bl_out.specs.Outputs.{NamesTable, Out, OutBlob, OutFile, OutTable, TableOf, BlobOf, IsSealedAs, addition_of, close_blob, close_table, files_of, next_file, on_last, on_place, sealed_next}
+use Rattle.bl_out.specs.Held.{HoldsFile, HoldsSealed, bytes_in, name_in}
+use Rattle.bl_out.specs.Outputs.{Out, OutBlob, OutFile, OutTable, TableOf, BlobOf, IsSealedAs, close_blob, close_table, files_of, next_file, on_last, on_place, sealed_next}
 use Rattle.bl_out.specs.declared.sealed.Sealed.{Sealed}
 use Rattle.bl_out.specs.declared.sealed.Sealed.TheVariants as sealed
 use Rattle.bl_out.specs.Quiet.{IsNoneOf}
-use Rattle.bl_out.specs.States.{AreBlobs, AreDrawn, AreFilled, AreTables, AreThere, AscendTo, Becomes, BlobHand, Hand, IsBlobClosedAs, IsClosedAs, IsOrdered, IsOut, State, names_of}
+use Rattle.bl_out.specs.States.{AreBlobs, AreDrawn, AreFilled, AreTables, AscendTo, Becomes, BlobHand, Hand, IsBlobClosedAs, IsClosedAs, IsOrdered, IsOut, State, names_of}
 use Rattle.bl_out.specs.Steps.{IsNext, closed_blob, closed_last, sealed_one}
 use Rattle.bl_out.proofs.BecomeLemmas.{all_at, becomes_as, becomes_same, becomes_then, not_blob, not_table, on_last_numbers, ordered_closed}
 use Rattle.bl_out.proofs.HandLemmas.{blobs_count, ends_in_blob, ends_in_table, tables_count}
@@ -99,10 +99,12 @@ module _ {S : Type 0} (g : Ghosts S) (s : State) (next : ℕ) (old new : S) wher
         holds_first (g.disk new) (sealed_one o) (subst (λ (n : ℕ). HoldsFirst (g.disk new) n (files_of o)) one
         (first_seals name (g.disk old) (g.disk new) (synced shown) o.sealed (files_of o) (is_next o is) (first_holds (g.disk old) o held)));
     there = λ shown there.
-        let on = there_on (g.disk old) (g.disk new) s (still_there name _ (g.disk old) (g.disk new) (synced shown).puts) there in
-        (on.0, on.1,
+        let on = there_on (g.disk old) (g.disk new) s (still_there name _ (g.disk old) (g.disk new) (synced shown).puts) there in (
+          on.0,
+          on.1,
           drop_more (λ (t : NewTable). IsSome (g.disk new (name_of (Table t.number)))) s.sealed (s.sealed + 1) s.tables (omega arith) on.2,
-          drop_more (λ (b : BlobAddition). IsSome (g.disk new (name_of (Blob b.number)))) (s.sealed - length s.tables) (s.sealed + 1 - length s.tables) s.blobs (omega arith) on.3);
+          drop_more (λ (b : BlobAddition). IsSome (g.disk new (name_of (Blob b.number)))) (s.sealed - length s.tables) (s.sealed + 1 - length s.tables) s.blobs (omega arith) on.3,
+        );
     certain = certain;
   }
 

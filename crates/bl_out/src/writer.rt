@@ -64,7 +64,7 @@ impl Model for Output {
     } };
 
     ghost invariant = { λ o. AreDrawn (record { options = o.options; one_table = o.one_table; tables = o.tables.items; table = o.table; blobs = o.blobs.items; blob = o.blob; drawn = o.drawn.items; sealed = o.sealed; failed = o.failed })
-         × (o.failed ≡ false → IfSome o.blob (λ b. 1 ≤ b.totals.count) × IfSome o.table (λ h. o.sealed ≤ length o.tables.items) × (o.sealed ≤ length o.tables.items + length o.blobs.items)) };
+        × (o.failed ≡ false → IfSome o.blob (λ b. 1 ≤ b.totals.count) × IfSome o.table (λ h. o.sealed ≤ length o.tables.items) × (o.sealed ≤ length o.tables.items + length o.blobs.items)) };
 }
 
 // Whether the entry's value goes to a blob file.

@@ -1,9 +1,8 @@
-use Rattle.std.proofs.Common.{◌≡◌, ◌<◌, ◌≤◌, ◌+◌, ℕ, Bool, None, length, [], refl, sym, ◌∙◌, ap, subst, arith, append-nil}
+use Rattle.std.proofs.Common.{◌≡◌, ◌<◌, ◌≤◌, ◌+◌, None, length, [], sym, ◌∙◌, ap, arith, append-nil}
 use Rattle.std.specs.Prelude.{IsSome}
 use Rattle.bl_out.specs.Outputs.{IsSealedAs, next_file}
 use Rattle.bl_out.specs.States.{State}
 use Rattle.bl_out.specs.Steps.{closed_blob}
-use Rattle.bl_out.specs.contracts.writer.Output.{the_view}
 use Rattle.bl_out.proofs.AppendLemmas.{ok_map}
 use Rattle.bl_out.proofs.BecomeLemmas.{acts_join}
 use Rattle.bl_out.proofs.PartLemmas.{none_is}

@@ -1,7 +1,6 @@
-use Rattle.std.proofs.Common.{◌≡◌, ◌<◌, ◌≤◌, ◌⊎◌, ◌+◌, ℕ, length, [], refl, sym, ◌∙◌, ap, subst, arith, ⊎_elim, append-nil}
+use Rattle.std.proofs.Common.{◌≡◌, ◌<◌, ◌≤◌, length, [], sym, ◌∙◌, arith, ⊎_elim, append-nil}
 use Rattle.std.specs.Prelude.{IsSome}
 use Rattle.bl_out.specs.Outputs.{IsSealedAs, next_file}
-use Rattle.bl_out.specs.States.{AreThere}
 use Rattle.bl_out.specs.Steps.{closed_last}
 use Rattle.bl_out.specs.contracts.writer.Output.{the_view}
 use Rattle.bl_out.proofs.AppendLemmas.{ok_map}

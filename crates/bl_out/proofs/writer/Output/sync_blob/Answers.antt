@@ -1,9 +1,8 @@
-use Rattle.std.proofs.Common.{◌≡◌, ◌<◌, ◌≤◌, ◌+◌, ◌-◌, length, get_or, ℕ, refl, sym, ◌∙◌, ap, subst, arith, Option, None, Some, slice_get}
+use Rattle.std.proofs.Common.{◌≡◌, ◌<◌, ◌≤◌, ◌+◌, ◌-◌, length, get_or, ℕ, refl, sym, ◌∙◌, subst, arith, None, Some, slice_get}
 use Rattle.std.proofs.lemmas.Option.{slice_get_read}
 use Rattle.bl_site.specs.Disk.{Name}
 use Rattle.bl_names.specs.Names.{name_of}
 use Rattle.bl_names.specs.declared.name.FileName.TheVariants.{Blob}
-use Rattle.bl_out.specs.Outputs.{IsSealedAs, next_file}
 use Rattle.bl_out.specs.Steps.{IsNext}
 use Rattle.bl_out.specs.contracts.writer.Output.{the_view}
 use Rattle.bl_out.proofs.SealLemmas.{blob_answers, blob_is_next, closed_blob_among}

@@ -1,4 +1,4 @@
-use Rattle.std.proofs.Common.{◌≡◌, ℕ, refl, ap}
+use Rattle.std.proofs.Common.{refl}
 use Rattle.std.proofs.lemmas.Result.{err_from_is_err_and}
 use Rattle.bl_out.specs.contracts.writer.Output.{the_view}
 use Rattle.bl_out.proofs.BecomeLemmas.{acts_once}
