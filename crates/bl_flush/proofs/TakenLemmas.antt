@@ -260,10 +260,10 @@ module _ {S : Type 0} (g : Ghosts S) (options : Values) (snapshots : List ℕ) (
         let same : next_of options snapshots from ((taken ++ x ∷ []) ++ rest) ≡ next_of options snapshots from memory = ap (next_of options snapshots from) one in
         omega (arith, grows, more, same, next_is)
 
-    pub refused : (e : JobErr) → out.Refuses g e s s_new next next_new site site_new → Rose (g.changes site) (g.changes site_new) ⊎ ((site_new ≡ site) × (next_new ≡ next))
+    pub refused : (e : JobErr) → out.Refuses g e s s_new next next_new site site_new
         → ((n : ℕ) → e ≡ Full n → (next_new ≡ 10 ^ 15) × (10 ^ 15 < next + made_for (added_of options snapshots from taken) x))
         → Refuses g e (next_of options snapshots from memory) from next_new start site_new
-    refused e r asked full =
+    refused e r full =
         let above : from ≤ next = at.above in
         let next_now : next_new ≡ next + d.made = d.next in
         let within : d.made ≤ made_for (added_of options snapshots from taken) x = d.within in
@@ -271,25 +271,27 @@ module _ {S : Type 0} (g : Ghosts S) (options : Values) (snapshots : List ℕ) (
         record {
           upwards = omega (arith, next_now);
           within = omega (arith, next_now, within, wanted);
-          asked = by s_new.failed refl (asked_so_far from next next_new taken x s s_new start site site_new at asked);
+          asked = by s_new.failed refl;
           full = λ is. let f = full (10 ^ 15) is in let lt : 10 ^ 15 < next + made_for (added_of options snapshots from taken) x = f.1 in (f.0, omega (arith, lt, wanted));
         }
       where
-        at_end : Rose (g.changes site) (g.changes site_new) ⊎ (e ≡ Full (10 ^ 15)) → (site_new ≡ start) × (next_new ≡ from) → Rose (g.changes start) (g.changes site_new) ⊎ (((e ≡ Full (10 ^ 15)) ⊎ (e ≡ OutOfMemory)) × (next_new ≡ from) × (site_new ≡ start))
-        at_end (inl rose) k = inl (rose_so_far from next next_new taken x s s_new start site site_new at rose)
-        at_end (inr f) k = inr (inl f, k.1, k.0)
+        nothing : (e ≡ OutOfMemory) → (next_new ≡ next) → (site_new ≡ site) → Rose (g.changes start) (g.changes site) ⊎ ((site ≡ start) × (next ≡ from))
+            → Rose (g.changes start) (g.changes site_new) ⊎ ((e ≡ Full (10 ^ 15)) ⊎ ((e ≡ OutOfMemory) × (next_new ≡ from) × (site_new ≡ start)))
+        nothing memory no_number same (inl rose) = inl (subst (λ (y : S). Rose (g.changes start) (g.changes y)) (sym same) rose)
+        nothing memory no_number same (inr so_far) = inr (inr (memory, no_number ∙ so_far.1, same ∙ so_far.0))
 
-        by : (b : Bool) → s_new.failed ≡ b → Rose (g.changes start) (g.changes site_new) ⊎ ((site_new ≡ start) × (next_new ≡ from))
-            → Rose (g.changes start) (g.changes site_new) ⊎ (((e ≡ Full (10 ^ 15)) ⊎ (e ≡ OutOfMemory)) × (next_new ≡ from) × (site_new ≡ start))
-        by b is (inl rose) = inl rose
-        by true is (inr same) = at_end (r.asked is) same
-        by false is (inr same) = inr (inr (r.stays is).0, same.1, same.0)
+        by : (b : Bool) → s_new.failed ≡ b → Rose (g.changes start) (g.changes site_new) ⊎ ((e ≡ Full (10 ^ 15)) ⊎ ((e ≡ OutOfMemory) × (next_new ≡ from) × (site_new ≡ start)))
+        by true is = elim (r.asked is) [
+          | inl rose ↦ inl (rose_so_far from next next_new taken x s s_new start site site_new at rose)
+          | inr no_number ↦ inr (inl no_number)
+        ]
+        by false is = let k = r.stays is in nothing k.0 k.1.next k.1.site at.asked
 
   -- a refusal before any entry
   pub refused_before : NewestStandsFirst → (from : ℕ) (memory : List Entry) (site : S) (e : JobErr) → IsAscending memory → e ≡ OutOfMemory → Refuses g e (next_of options snapshots from memory) from from site site
   refused_before law from memory site e up is =
       let le : next_of options snapshots from [] ≤ next_of options snapshots from ([] ++ memory) = next_up law from [] memory up in
-      record { upwards = omega arith; within = le; asked = inr (inr is, refl, refl); full = λ f. absurd (not_full (sym is ∙ f)) }
+      record { upwards = omega arith; within = le; asked = inr (inr (is, refl, refl)); full = λ f. absurd (not_full (sym is ∙ f)) }
     where
       not_full : OutOfMemory ≡ Full (10 ^ 15) → ⊥
       not_full q = cc
@@ -350,11 +352,10 @@ module _ {S : Type 0} (g : Ghosts S) (options : Values) (snapshots : List ℕ) (
         }
 
     pub refuses_on : follows_alike snapshots front e ≡ false → (err : JobErr) (next_new : ℕ) (s_new : State) (site_new : S) → ((o : Out) → IsOut o s → Draws (made_for o e) s s_new next next_new) → out.Refuses g err s s_new next next_new site site_new
-        → Rose (g.changes site) (g.changes site_new) ⊎ ((site_new ≡ site) × (next_new ≡ next))
         → ((o : Out) → IsOut o s → (n : ℕ) → err ≡ Full n → (next_new ≡ 10 ^ 15) × (10 ^ 15 < next + made_for o e))
         → Refuses g err (next_of options snapshots from memory) from next_new start site_new
-    refuses_on other err next_new s_new site_new draws r asked full =
-        refused from next next_new es h.more memory e s s_new start site site_new t.taken.at whole up law (ap (λ f. follows_alike snapshots f e) (sym t.taken.front_is) ∙ other) t.taken.next_is (draws (added_of options snapshots from es) t.taken.at.out) err r asked
+    refuses_on other err next_new s_new site_new draws r full =
+        refused from next next_new es h.more memory e s s_new start site site_new t.taken.at whole up law (ap (λ f. follows_alike snapshots f e) (sym t.taken.front_is) ∙ other) t.taken.next_is (draws (added_of options snapshots from es) t.taken.at.out) err r
         (λ n is. full (added_of options snapshots from es) t.taken.at.out n is)
 
     pub touches_on : (next_new : ℕ) (s_new : State) (site_new : S) → ((o : Out) → IsOut o s → Draws (made_for o e) s s_new next next_new) → TouchesOnly g (names_of s_new.drawn) site site_new → TouchesOnly g (names_of (range_with_len from (next_new - from))) start site_new

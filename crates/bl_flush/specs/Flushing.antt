@@ -29,11 +29,11 @@ pub record Flushes (options : Values) (from next : ℕ) (snapshots : List ℕ) (
   pub tables : AllByRecursion (λ t. (t.meta.number < next) × IsSynced disk (name_of (Table t.meta.number))) files.tables
   pub blobs : AllByRecursion (λ b. (b.named.number < next) × IsSynced disk (name_of (Blob b.named.number))) files.blobs
 
--- After a refusal numbers were drawn for some files of the flush. The folder was asked, or no number was left for a first file, or memory ran out: then nothing has changed. At `Full` all numbers were drawn, and the flush makes more files.
+-- After a refusal numbers were drawn for some files of the flush. The folder was asked, or no number was left, or memory ran out and nothing has changed. At `Full` all numbers are drawn, and the flush makes more files.
 pub record Refuses {S : Type 0} (g : Ghosts S) (e : JobErr) (wanted next_old next_new : ℕ) (old new : S) : Type 0 where
   pub upwards : next_old ≤ next_new
   pub within : next_new ≤ wanted
-  pub asked : Rose (g.changes old) (g.changes new) ⊎ (((e ≡ Full (10 ^ 15)) ⊎ (e ≡ OutOfMemory)) × (next_new ≡ next_old) × (new ≡ old))
+  pub asked : Rose (g.changes old) (g.changes new) ⊎ ((e ≡ Full (10 ^ 15)) ⊎ ((e ≡ OutOfMemory) × (next_new ≡ next_old) × (new ≡ old)))
   pub full : e ≡ Full (10 ^ 15) → (next_new ≡ 10 ^ 15) × (10 ^ 15 < wanted)
 
 -- ---- on the way

@@ -1,9 +1,11 @@
 -- The parts of which taking an entry is made are, together, an entry more.
-use Rattle.std.proofs.Common.{◌≡◌, ℕ, ◌+◌, ◌<◌, Bool, true, false, List, [], ◌∷◌, ◌++◌, length, refl, sym, ◌∙◌, ap, subst, ⊎_elim, arith, Option, Some, None, append_assoc, append-nil}
+use Rattle.std.proofs.Common.{◌≡◌, ◌⊎◌, inl, inr, ℕ, ◌+◌, ◌<◌, Bool, true, false, List, [], ◌∷◌, ◌++◌, length, refl, sym, ◌∙◌, ap, subst, ⊎_elim, arith, Option, Some, None, append_assoc, append-nil, length-append}
 use Rattle.std.specs.Prelude.{◌^◌, ◌&&◌, ◌||◌, not, nat_le, if◌then◌else◌, is_some, IsSome, IsSomeAnd, Result, Ok, Err, IfErr}
 use Rattle.std.specs.Result.{IsErrAnd}
 use Rattle.std.specs.List.{range_with_len}
 use Rattle.std.proofs.lemmas.Bool.{false≢true}
+use Rattle.std.proofs.lemmas.List.FromFn.{length-range_with_len}
+use Rattle.bl_site.specs.Causes.{Rose}
 use Rattle.bl_code.proofs.ReadingLemmas.{blob_index_spelled}
 use Rattle.bl_index.specs.declared.index.BlobIndex.{BlobIndex}
 use Rattle.bl_names.specs.Names.{IsNumber}
@@ -15,8 +17,8 @@ use Rattle.bl_entry.specs.Entries.{last_of}
 use Rattle.bl_blob.specs.BlobFile.{totals_of}
 use Rattle.bl_edit.specs.Options.{Values}
 use Rattle.bl_out.specs.Outputs.{Out, OutBlob, OutTable, added, begins_table, blob_size, close_blob, close_table, entry_behind, goes_on, is_of_other, made_for, new_blob, new_table, on_last, open_size, passes, put_entry, put_record, record_of}
-use Rattle.bl_out.specs.States.{IsOrdered, Spans, AreBlobs, AreTables, Becomes, BlobHand, Hand, IsBlobHandOf, IsOut, State}
-use Rattle.bl_out.specs.Steps.{closed_blob, has_blob, index_at, store_value, with_blob_room, with_entry, with_large, with_room, with_table, with_value, with_written, closed_last}
+use Rattle.bl_out.specs.States.{Draws, IsOrdered, Spans, AreBlobs, AreTables, Becomes, BlobHand, Hand, IsBlobHandOf, IsOut, State}
+use Rattle.bl_out.specs.Steps.{Acts, closed_blob, has_blob, index_at, store_value, with_blob_room, with_entry, with_large, with_room, with_table, with_value, with_written, closed_last}
 use Rattle.bl_out.specs.Written.{is_large, reference_to}
 use Rattle.bl_out.specs.declared.error.JobErr.{JobErr}
 use Rattle.bl_out.specs.declared.error.JobErr.TheVariants.{Full}
@@ -224,3 +226,27 @@ module _ {S : Type 0} (g : Ghosts S) where
     there = first.there;
     certain = first.certain;
   }
+
+-- ---- whether the folder was asked
+
+-- nothing more is drawn than the list of numbers shows
+drawn_none : (ns : List ℕ) (next made : ℕ) → ns ≡ ns ++ range_with_len next made → made ≡ 0
+drawn_none ns next made e =
+    let a = ap length e in
+    let b = length-append ns (range_with_len next made) in
+    let c = length-range_with_len next made in
+    omega (arith, a, b, c)
+
+pub was_asked : {S T : Type 0} (g : Ghosts S) (x : T) (files : ℕ) (a b : State) (next later : ℕ) (s t : S) → a.failed ≡ false → Acts g (Ok x) a b s t → Draws files a b next later → Rose (g.changes s) (g.changes t) ⊎ ((t ≡ s) × (later ≡ next))
+was_asked g x files a b next later s t usable acts d = by b.failed refl
+  where
+    by : (c : Bool) → b.failed ≡ c → Rose (g.changes s) (g.changes t) ⊎ ((t ≡ s) × (later ≡ next))
+    by true set = elim (acts.asked set) [
+      | inl was ↦ absurd (false≢true (sym usable ∙ was))
+      | inr how ↦ elim how [ inl rose ↦ inl rose | inr full ↦ absurd cc ]
+    ]
+    by false unset =
+        let still = acts.still unset in
+        let none : d.made ≡ 0 = drawn_none a.drawn next d.made (sym still.1 ∙ d.drawn) in
+        let same : later ≡ next = let e = d.next in omega (arith, e, none) in
+        inr (still.0, same)

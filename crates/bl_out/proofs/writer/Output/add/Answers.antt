@@ -1,4 +1,4 @@
-use Rattle.std.proofs.Common.{◌≡◌, ◌+◌, ◌<◌, ℕ, false, sym, ◌∙◌, ap, subst, Err}
+use Rattle.std.proofs.Common.{◌≡◌, ◌+◌, ◌<◌, ℕ, false, sym, ◌∙◌, ap, subst, Ok, Err}
 use Rattle.std.specs.Prelude.{◌^◌, ◌&&◌, not, is_some, if◌then◌else◌}
 use Rattle.std.specs.List.{range_with_len}
 use Rattle.std.proofs.lemmas.Result.{err_from_is_err_and}
@@ -6,9 +6,10 @@ use Rattle.bl_edit.specs.Options.{Values}
 use Rattle.bl_out.specs.Outputs.{added, made_for}
 use Rattle.bl_out.specs.Quiet.{TouchesOnly}
 use Rattle.bl_out.specs.States.{Becomes, Draws, State, names_of}
-use Rattle.bl_out.specs.Steps.{has_blob, with_room, with_written}
+use Rattle.bl_out.specs.Steps.{Acts, has_blob, with_room, with_written}
+use Rattle.bl_out.specs.declared.error.JobErr.{JobErr}
 use Rattle.bl_out.specs.Written.{is_large}
-use Rattle.bl_out.proofs.AddLemmas.{becomes_usable, has_blob_is, made_is, ordered_room, too_many, written_added}
+use Rattle.bl_out.proofs.AddLemmas.{becomes_usable, has_blob_is, made_is, ordered_room, too_many, was_asked, written_added}
 use Rattle.bl_out.proofs.BecomeLemmas.{acts_join, becomes_as, becomes_then, draws_join}
 use Rattle.bl_out.proofs.writer.Output.add.Goals as goal
 
@@ -70,6 +71,10 @@ returns-clause-touches g c =
 pub returns-clause-asked : goal.returns-clause-asked
 returns-clause-asked g c =
     let a = c.args.self.now in let z = c.write_entry.new.self in
+    let first = c.in_ok-make_room.ensures in
     let all = acts_join g.S.Site c.in_ok-make_room.field-0 c.write_entry.result a c.make_room.new.self z c.args.site.now c.make_room.new.site c.write_entry.new.site
-        (range_with_len c.make_room.new.numbers c.write_entry.ensures.draws.made) c.in_ok-make_room.ensures.becomes.certain c.write_entry.ensures.draws.drawn c.in_ok-make_room.ensures.acts c.write_entry.ensures.acts in
-    ?
+        (range_with_len c.make_room.new.numbers c.write_entry.ensures.draws.made) first.becomes.certain c.write_entry.ensures.draws.drawn first.acts c.write_entry.ensures.acts in
+    let b = c.begins_table-begins.result in let l = is_large c.make_room.new.self.options.min_blob_size c.args.entry.now in let held = is_some c.make_room.new.self.blob in
+    let drawn = draws_join (if b then 1 else 0) (if (l && not held) then 1 else 0) a c.make_room.new.self z c.args.numbers.now c.make_room.new.numbers c.write_entry.new.numbers c.make_room.ensures.draws c.write_entry.ensures.draws in
+    let acts : Acts g.S.Site (Ok c.in_ok-write_entry.field-0) a z c.args.site.now c.write_entry.new.site = subst (λ r. Acts g.S.Site r a z c.args.site.now c.write_entry.new.site) c.in_ok-write_entry.was all in
+    was_asked g.S.Site c.in_ok-write_entry.field-0 _ a z c.args.numbers.now c.write_entry.new.numbers c.args.site.now c.write_entry.new.site c.requires.usable acts drawn
