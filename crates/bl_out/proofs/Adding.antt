@@ -16,7 +16,7 @@ use Rattle.bl_edit.specs.Options.{Values}
 use Rattle.bl_out.specs.Written.{Stored, Writes, nothing, inline, large, is_large, is_large_in, reference_to, stored_at, stored_of}
 use Rattle.bl_out.specs.Outputs.{Out, OutBlob, OutTable, added, begins_blob, begins_table, blob_number, blob_size, blobs_for, close_table, entry_behind, goes_on, index_behind, made_for, new_blob, new_table, on_last, open_size, passes, put_entry, put_record, record_of, is_of_other, tables_for, written_for}
 use Rattle.bl_out.specs.Made.{AddedIsMade, BegunIsMade, IsBlobFrom, IsMade, IsTableFrom, all_entries, all_stored}
-use Rattle.bl_out.specs.States.{AscendTo, IsOrdered}
+use Rattle.bl_out.specs.States.{AscendTo}
 
 -- ---- the same, a file at a time
 

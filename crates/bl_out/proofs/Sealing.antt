@@ -1,8 +1,8 @@
 -- Files are sealed one by one.
-use Rattle.std.proofs.Common.{◌≡◌, ℕ, zero, suc, ◌+◌, ◌-◌, ◌<◌, ◌≤◌, nat_lt, nat_le, Bool, true, false, cond, List, [], ◌∷◌, ◌++◌, length, refl, sym, ◌∙◌, ap, subst, arith, None, length-append}
+use Rattle.std.proofs.Common.{◌≡◌, ℕ, zero, suc, ◌+◌, ◌-◌, ◌<◌, ◌≤◌, nat_lt, nat_le, Bool, true, false, List, [], ◌∷◌, ◌++◌, length, refl, sym, ◌∙◌, ap, subst, arith, None, length-append}
 use Rattle.std.specs.Prelude.{map, slice_get, if◌then◌else◌}
 use Rattle.std.proofs.lemmas.Bool.{ltb-true, ltb-false, lt-ltb, le-leb}
-use Rattle.bl_out.specs.Outputs.{Out, OutBlob, OutTable, TableOf, BlobOf, close_blob, close_table, files_of, finished, next_file, on_place, sealed_next}
+use Rattle.bl_out.specs.Outputs.{Out, OutBlob, OutTable, TableOf, BlobOf, close_blob, close_table, files_of, finished, on_place, sealed_next}
 use Rattle.bl_out.specs.Made.{SealsNext, SealsToTheEnd, on_first, sealed_to}
 
 -- the next one is changed too

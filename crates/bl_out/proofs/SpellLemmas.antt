@@ -1,5 +1,5 @@
 -- The keys of an edit are spelled in its bounds.
-use Rattle.std.proofs.Common.{◌≡◌, ℕ, ◌+◌, ◌%◌, ◌^◌, ◌<◌, ◌≤◌, length, true, ◌∙◌, ap, arith, refl, length-append}
+use Rattle.std.proofs.Common.{◌≡◌, ℕ, ◌+◌, ◌%◌, ◌<◌, ◌≤◌, length, true, ◌∙◌, ap, arith, refl, length-append}
 use Rattle.std.specs.Prelude.{nat_le, IsTrue}
 use Rattle.std.proofs.lemmas.Bool.{and_from, le-leb}
 use Rattle.bl_code.specs.Numbers.{fixed64}

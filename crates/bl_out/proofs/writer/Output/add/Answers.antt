@@ -7,7 +7,6 @@ use Rattle.bl_out.specs.Outputs.{added, made_for}
 use Rattle.bl_out.specs.Quiet.{TouchesOnly}
 use Rattle.bl_out.specs.States.{Becomes, Draws, State, names_of}
 use Rattle.bl_out.specs.Steps.{Acts, has_blob, with_room, with_written}
-use Rattle.bl_out.specs.declared.error.JobErr.{JobErr}
 use Rattle.bl_out.specs.Written.{is_large}
 use Rattle.bl_out.proofs.AddLemmas.{becomes_usable, has_blob_is, made_is, ordered_room, too_many, was_asked, written_added}
 use Rattle.bl_out.proofs.BecomeLemmas.{acts_join, becomes_as, becomes_then, draws_join}
