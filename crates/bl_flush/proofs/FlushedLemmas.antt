@@ -1,11 +1,11 @@
 -- What a flush has written is read.
-use Rattle.std.proofs.Common.{◌≡◌, ℕ, ◌≤◌, ◌^◌, true, List, [], ◌∷◌, length, refl, sym, ◌∙◌, ap, subst, arith}
+use Rattle.std.proofs.Common.{◌≡◌, ℕ, ◌≤◌, ◌^◌, true, List, [], ◌∷◌, length, sym, subst, arith}
 use Rattle.std.specs.Prelude.{◌&&◌, IfOk, OnOk, Result, Ok, Err}
 use Rattle.std.specs.List.{AllByRecursion}
 use Rattle.bl_site.specs.Disk.{Disk}
 use Rattle.bl_entry.specs.declared.key.Entry.{Entry}
 use Rattle.bl_entry.specs.Entries.{IsAscending, IsProper}
-use Rattle.bl_entry.specs.Kept.{is_newest, kept}
+use Rattle.bl_entry.specs.Kept.{is_newest}
 use Rattle.bl_edit.specs.Bounds.{FitsWords, IsEdit}
 use Rattle.bl_edit.specs.Options.{AreInRange, Values}
 use Rattle.bl_edit.specs.declared.edit.Edit.{Edit}

@@ -5,7 +5,6 @@ use Rattle.std.specs.List.{AllByRecursion}
 use Rattle.bl_entry.specs.declared.key.Entry.{Entry}
 use Rattle.bl_entry.specs.Entries.{IsProper}
 use Rattle.bl_entry.specs.Kept.{is_newest, kept}
-use Rattle.bl_edit.specs.Options.{Values}
 use Rattle.bl_out.specs.Outputs.{Out, added, begun, made_for}
 use Rattle.bl_out.specs.Made.{AddedIsMade, BegunIsMade, IsMade}
 use Rattle.bl_out.specs.Written.{IsPlainKind}
@@ -37,5 +36,5 @@ makes law from next o (e ∷ es) le proper m =
 pub flushes_make_kept : BegunIsMade → AddedIsMade → FlushesMakeKept
 flushes_make_kept begin law options snapshots next memory range written =
     let r = makes law next next (begun options true) (kept snapshots false memory) (omega arith)
-        (all_filter (λ e. IsProper e × IsPlainKind e.key.kind) (λ e. is_newest snapshots memory e && true) memory written) (begin options true next range) in
+    (all_filter (λ e. IsProper e × IsPlainKind e.key.kind) (λ e. is_newest snapshots memory e && true) memory written) (begin options true next range) in
     record { made = r.made; given = r.given; one = r.one; options_are = r.options; above = r.above }

@@ -194,7 +194,7 @@ blob_by k o e names all b there (sealed.Blob named) is =
     let one : suc (k - length o.tables) ≡ suc k - length o.tables = omega arith in
     let ts : take k o.tables ≡ take (suc k) o.tables = take_all k o.tables all ∙ sym (take_all (suc k) o.tables (omega arith)) in
     let more : map addition_of (take (k - length o.tables) o.blobs) ++ addition_of b ∷ [] ≡ map addition_of (take (suc k - length o.tables) o.blobs) =
-        sym (map_more addition_of (take (k - length o.tables) o.blobs) b) ∙ ap (map addition_of) (sym (take_more (k - length o.tables) o.blobs b there)) ∙ ap (λ n. map addition_of (take n o.blobs)) one in
+    sym (map_more addition_of (take (k - length o.tables) o.blobs) b) ∙ ap (map addition_of) (sym (take_more (k - length o.tables) o.blobs b there)) ∙ ap (λ n. map addition_of (take n o.blobs)) one in
     record {
       tables = names.tables;
       named = subst (λ (us : List OutTable). AreNamed us names.tables) ts names.named;
@@ -220,8 +220,8 @@ module _ (k : ℕ) (o : Out) (x : Sealed) (e : Edit) (names : NamesFirst k o e) 
       let size : length (on_first close_table k o.tables) ≡ length o.tables = length_first close_table k o.tables in
       let place : k - length (on_first close_table k o.tables) ≡ j = ap (λ n. k - n) size in
       let next : next_file (sealed_to k o) ≡ Some (BlobOf b.0) =
-          get_right TableOf (on_first close_table k o.tables) (map BlobOf (on_first close_blob j o.blobs)) k (omega arith) ∙ ap (slice_get (map BlobOf (on_first close_blob j o.blobs))) place
-          ∙ get_mapped BlobOf (on_first close_blob j o.blobs) j b.0 (get_next close_blob j o.blobs ∙ b.1) in
+      get_right TableOf (on_first close_table k o.tables) (map BlobOf (on_first close_blob j o.blobs)) k (omega arith) ∙ ap (slice_get (map BlobOf (on_first close_blob j o.blobs))) place
+      ∙ get_mapped BlobOf (on_first close_blob j o.blobs) j b.0 (get_next close_blob j o.blobs ∙ b.1) in
       blob_by k o e names all b.0 b.1 x (subst (λ (n : Option OutFile). IsSealedAs n (Some x)) next is)
 
   pub one_more : k < length (files_of o) → IsSealedAs (next_file (sealed_to k o)) (Some x) → NamesFirst (suc k) o (with_sealed x e)
@@ -317,13 +317,15 @@ module _ {S : Type 0} (g : Ghosts S) (began : State) (start : S) where
           let less = there_was s.sealed o x is in
           let step : sealed_next (sealed_to s.sealed o) ≡ sealed_to (suc s.sealed) o = law s.sealed o less in
           let now : IsOut (sealed_to (suc s.sealed) o) s_new = subst (λ (p : Out). IsOut p s_new) step ((becomes next).out (sealed_to s.sealed o) a.out) in
-          let count : s_new.sealed ≡ suc s.sealed = sym now.sealed in
-          (record {
-            out = subst (λ (k : ℕ). IsOut (sealed_to k o) s_new) (sym count) now;
-            within = omega (arith, less, count);
-            holds = λ shown h. subst (λ (k : ℕ). HoldsOut (g.disk site_new) (sealed_to k o)) (sym count) (subst (HoldsOut (g.disk site_new)) step ((becomes next).holds shown (sealed_to s.sealed o) a.out (ordered s.sealed o from next made) (a.holds shown h)));
-            names = subst (λ (k : ℕ). NamesFirst k o (with_sealed x e)) (sym count) (one_more s.sealed o x e a.names less is);
-          }, count)
+          let count : s_new.sealed ≡ suc s.sealed = sym now.sealed in (
+            record {
+              out = subst (λ (k : ℕ). IsOut (sealed_to k o) s_new) (sym count) now;
+              within = omega (arith, less, count);
+              holds = λ shown h. subst (λ (k : ℕ). HoldsOut (g.disk site_new) (sealed_to k o)) (sym count) (subst (HoldsOut (g.disk site_new)) step ((becomes next).holds shown (sealed_to s.sealed o) a.out (ordered s.sealed o from next made) (a.holds shown h)));
+              names = subst (λ (k : ℕ). NamesFirst k o (with_sealed x e)) (sym count) (one_more s.sealed o x e a.names less is);
+            },
+            count,
+          )
 
       pub sealing_goes_on : (x : Sealed) → ((o : Out) → IsOut o s → AreFilled o → IsSealedAs (next_file o) (Some x)) → FitsWords (with_sealed x e) → IsSealing g began s_new (with_sealed x e) start site_new
       sealing_goes_on x named fits = record {

@@ -8,8 +8,7 @@ use Rattle.bl_names.specs.declared.name.FileName.TheVariants.{Table, Blob}
 use Rattle.bl_names.specs.Names.{name_of}
 use Rattle.std.specs.List.{AllByRecursion, range_with_len}
 use Rattle.std.proofs.lemmas.List.FromFn.{length-range_with_len}
-use Rattle.std.proofs.lemmas.List.Elements.{All-contains, All-from_recursion}
-use Rattle.bl_site.specs.Causes.{Rose, one_more}
+use Rattle.bl_site.specs.Causes.{Rose}
 use Rattle.bl_site.specs.Disk.{Disk, Name}
 use Rattle.bl_site.specs.Quiet.{TellsNothing}
 use Rattle.bl_site.specs.declared.site.Site.{Ghosts}
@@ -17,7 +16,6 @@ use Rattle.bl_entry.specs.declared.key.Entry.{Entry}
 use Rattle.bl_entry.specs.Entries.{IsAscending, IsProper, last_of}
 use Rattle.bl_entry.specs.Kept.{NewestStandsFirst, follows_alike, kept}
 use Rattle.bl_edit.specs.Options.{AreInRange, Values}
-use Rattle.bl_out.specs.Held.{HoldsOut}
 use Rattle.bl_out.specs.Made.{AddedIsMade, BegunIsMade, IsMade}
 use Rattle.bl_out.specs.Outputs.{Out, added, begun, made_for}
 use Rattle.bl_out.specs.Quiet.{IsNoneOf, TouchesOnly}
@@ -208,22 +206,24 @@ module _ {S : Type 0} (g : Ghosts S) (options : Values) (snapshots : List ℕ) (
         let le : from ≤ next_new = omega (arith, behind) in
         let made : IsMade from (next + made_for o e) (added next o e) = law from next o e above proper at.made in
         let now : added_of options snapshots from (taken ++ e ∷ []) ≡ added next o e =
-            ap (all_added from (begun options true)) keeps ∙ added_behind from (begun options true) (kept snapshots false taken) e ∙ ap (λ n. added n o e) (sym next_is) in
+        ap (all_added from (begun options true)) keeps ∙ added_behind from (begun options true) (kept snapshots false taken) e ∙ ap (λ n. added n o e) (sym next_is) in
         let next_now : next_of options snapshots from (taken ++ e ∷ []) ≡ next_new =
-            ap (next_behind from (begun options true)) keeps ∙ next_more from (begun options true) (kept snapshots false taken) e ∙ ap (λ n. n + made_for o e) (sym next_is) ∙ sym behind in
-        (subst (λ (p : Out). IsAt g p from next_new s_new start site_new) (sym now) (record {
-          out = becomes.out o at.out;
-          made = subst (λ (n : ℕ). IsMade from n (added next o e)) (sym behind) made;
-          above = le;
-          drawn = (becomes.out o at.out).drawn ∙ drawn_to d;
-          usable = usable;
-          holds = λ shown. becomes.holds shown o at.out at.made.ordered (at.holds shown);
-          there = λ shown. becomes.there shown (at.there shown);
-          certain = λ shown sure. becomes.certain shown (at.certain shown sure);
-          touches = touches_so_far d touches;
-          tells_nothing = tells_so_far silent;
-          asked = asked_so_far asked;
-        }), sym next_now)
+        ap (next_behind from (begun options true)) keeps ∙ next_more from (begun options true) (kept snapshots false taken) e ∙ ap (λ n. n + made_for o e) (sym next_is) ∙ sym behind in (
+          subst (λ (p : Out). IsAt g p from next_new s_new start site_new) (sym now) (record {
+            out = becomes.out o at.out;
+            made = subst (λ (n : ℕ). IsMade from n (added next o e)) (sym behind) made;
+            above = le;
+            drawn = (becomes.out o at.out).drawn ∙ drawn_to d;
+            usable = usable;
+            holds = λ shown. becomes.holds shown o at.out at.made.ordered (at.holds shown);
+            there = λ shown. becomes.there shown (at.there shown);
+            certain = λ shown sure. becomes.certain shown (at.certain shown sure);
+            touches = touches_so_far d touches;
+            tells_nothing = tells_so_far silent;
+            asked = asked_so_far asked;
+          }),
+          sym next_now,
+        )
 
   -- more entries draw no fewer numbers
   pub next_up : NewestStandsFirst → (from : ℕ) (taken rest : List Entry) → IsAscending (taken ++ rest) → next_of options snapshots from taken ≤ next_of options snapshots from (taken ++ rest)
@@ -242,7 +242,7 @@ module _ {S : Type 0} (g : Ghosts S) (options : Values) (snapshots : List ℕ) (
           omega (arith, stays)
       one_up kept_law low es e front false other =
           let grows : next_of options snapshots low (es ++ e ∷ []) ≡ next_of options snapshots low es + made_for (added_of options snapshots low es) e =
-              ap (next_behind low (begun options true)) (kept_more kept_law snapshots es e front other) ∙ next_more low (begun options true) (kept snapshots false es) e in
+          ap (next_behind low (begun options true)) (kept_more kept_law snapshots es e front other) ∙ next_more low (begun options true) (kept snapshots false es) e in
           omega (arith, grows)
 
   -- ---- a refusal
@@ -255,7 +255,7 @@ module _ {S : Type 0} (g : Ghosts S) (options : Values) (snapshots : List ℕ) (
         let one : (taken ++ x ∷ []) ++ rest ≡ memory = append_assoc taken (x ∷ []) rest ∙ split in
         let up_here : IsAscending ((taken ++ x ∷ []) ++ rest) = subst IsAscending (sym one) up in
         let grows : next_of options snapshots from (taken ++ x ∷ []) ≡ next_of options snapshots from taken + made_for (added_of options snapshots from taken) x =
-            ap (next_behind from (begun options true)) (kept_more law snapshots taken x (ascends_in_front (taken ++ x ∷ []) rest up_here) other) ∙ next_more from (begun options true) (kept snapshots false taken) x in
+        ap (next_behind from (begun options true)) (kept_more law snapshots taken x (ascends_in_front (taken ++ x ∷ []) rest up_here) other) ∙ next_more from (begun options true) (kept snapshots false taken) x in
         let more : next_of options snapshots from (taken ++ x ∷ []) ≤ next_of options snapshots from ((taken ++ x ∷ []) ++ rest) = next_up law from (taken ++ x ∷ []) rest up_here in
         let same : next_of options snapshots from ((taken ++ x ∷ []) ++ rest) ≡ next_of options snapshots from memory = ap (next_of options snapshots from) one in
         omega (arith, grows, more, same, next_is)

@@ -1,8 +1,8 @@
 -- What a flush leaves.
-use Rattle.std.specs.Prelude.{◌≡◌, ◌⊎◌, ℕ, ◌-◌, ◌^◌, ◌<◌, ◌≤◌, false, List, [], Some}
+use Rattle.std.specs.Prelude.{◌≡◌, ◌⊎◌, ℕ, ◌-◌, ◌^◌, ◌<◌, ◌≤◌, false, List}
 use Rattle.std.specs.List.{AllByRecursion, range_with_len}
 use Rattle.bl_site.specs.Causes.{Rose}
-use Rattle.bl_site.specs.Disk.{Disk, File, Name, folder_of}
+use Rattle.bl_site.specs.Disk.{Disk, folder_of}
 use Rattle.bl_site.specs.declared.site.Site.{Ghosts}
 use Rattle.bl_names.specs.declared.name.FileName.TheVariants.{Table, Blob}
 use Rattle.bl_names.specs.Names.{name_of}

@@ -1,10 +1,8 @@
 -- Laws of flushes.
-use Rattle.std.specs.Prelude.{◌≡◌, ℕ, ◌≤◌, ◌^◌, true, false, List, ◌++◌}
-use Rattle.std.specs.List.{AllByRecursion}
+use Rattle.std.specs.Prelude.{◌≡◌, ℕ, ◌≤◌, true, false, List}
 use Rattle.bl_entry.specs.declared.key.Entry.{Entry}
 use Rattle.bl_entry.specs.Kept.{kept}
 use Rattle.bl_edit.specs.Options.{AreInRange, Values}
-use Rattle.bl_out.specs.Outputs.{Out, begun}
 use Rattle.bl_out.specs.Made.{IsMade}
 use Rattle.bl_flush.specs.Jobs.{AreWritten, added_of, next_of}
 

@@ -23,7 +23,10 @@ use bl_code::Octets;
 use bl_edit::{Edit, Options};
 use bl_entry::{Entry, InternalKey, Kind, newest_stands_first};
 use bl_memtab::{MemTable, after_is_next, ascends};
-use bl_out::{JobErr, Numbers, Output, Sealed, finished_outputs_are_read, outputs_are_sealed_file_by_file, outputs_write_what_they_are_given};
+use bl_out::{
+    JobErr, Numbers, Output, Sealed, finished_outputs_are_read, outputs_are_sealed_file_by_file,
+    outputs_write_what_they_are_given,
+};
 use bl_site::Site;
 use std::alloc::Global;
 

@@ -32,8 +32,7 @@ fn stripe(snapshots: &[u64], seq: u64) -> usize
 fn alike(snapshots: &[u64], a: &Entry, b: &Entry) -> bool
     ensures { result ≡ alike snapshots.now a.now b.now }
 {
-    same_user(a, b)
-        && stripe(snapshots, sequence_of(a)) == stripe(snapshots, sequence_of(b))
+    same_user(a, b) && stripe(snapshots, sequence_of(a)) == stripe(snapshots, sequence_of(b))
 }
 
 /// Whether the entry in front is of the same user key and stripe: then it is newer, and this one is not kept.

@@ -72,12 +72,12 @@ module _ (k : ℕ) (o : Out) (less : k < length (files_of o)) where
   seals_one =
       let one_more : k + 1 ≡ suc k = omega arith in
       (λ i. if some i
-        then record o {
-          tables = on_place close_table k tables_now;
-          blobs = if nat_le (length tables_now) k then on_place close_blob (k - length tables_now) blobs_now else blobs_now;
-          sealed = k + 1;
-        }
-        else sealed_to k o)
+      then record o {
+        tables = on_place close_table k tables_now;
+        blobs = if nat_le (length tables_now) k then on_place close_blob (k - length tables_now) blobs_now else blobs_now;
+        sealed = k + 1;
+      }
+      else sealed_to k o)
       ∙ (λ i. record o { tables = place_next close_table k o.tables i; blobs = blobs_by (nat_lt k (length o.tables)) refl i; sealed = one_more i })
 
 pub seals_next : SealsNext

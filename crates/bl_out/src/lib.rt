@@ -16,8 +16,7 @@ mod writer;
 pub use error::JobErr;
 pub use laws::{
     finished_outputs_are_read, order_does_not_matter, outputs_are_sealed_file_by_file,
-    outputs_write_what_they_are_given,
-    values_are_read_at,
+    outputs_write_what_they_are_given, values_are_read_at,
 };
 pub use numbers::Numbers;
 pub use sealed::Sealed;

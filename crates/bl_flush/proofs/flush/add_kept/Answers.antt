@@ -48,8 +48,8 @@ returns-in_err-add-clause-refused g c =
     let t = subst (λ (a : Option Entry). TakenTo g.S.Site c.args.options.now c.args.snapshots.now c.args.numbers.now c.entries.numbers c.args.memory.now (option_copied c.entries.front) a c.entries.output c.args.site.now c.entries.site c.entries.counter) ahead c.entries.invariant in
     let p = err_from_is_err_and c.from_residual-in_err-add.result c.from_residual-in_err-add.ensures.1 in
     let why = refuses_on g.S.Site c.args.options.now c.args.snapshots.now c.show_range.ensures c.newest_stands_first.ensures c.after_is_next.ensures.next c.args.numbers.now c.entries.numbers c.entries.counter c.args.memory.now (option_copied c.entries.front) e
-        (after e.key true c.args.memory.now) c.entries.output c.args.site.now c.entries.site t c.ascends.ensures.ascending refl (sym c.follows_alike.ensures ∙ c.if-not-follows_alike.true)
-        c.in_err-add.field-0.0 c.add.new.numbers c.add.new.self c.add.new.site c.add.ensures.draws c.in_err-add.ensures.refused (λ o out n is. c.in_err-add.ensures.full o out n (ap Err is)) in
+    (after e.key true c.args.memory.now) c.entries.output c.args.site.now c.entries.site t c.ascends.ensures.ascending refl (sym c.follows_alike.ensures ∙ c.if-not-follows_alike.true)
+    c.in_err-add.field-0.0 c.add.new.numbers c.add.new.self c.add.new.site c.add.ensures.draws c.in_err-add.ensures.refused (λ o out n is. c.in_err-add.ensures.full o out n (ap Err is)) in
     rw p.1 (subst (λ (x : JobErr). Refuses g.S.Site x (next_of c.args.options.now c.args.snapshots.now c.args.numbers.now c.args.memory.now) c.args.numbers.now c.add.new.numbers c.args.site.now c.add.new.site) (sym p.2) why)
 
 pub returns-in_err-add-clause-touches : goal.returns-in_err-add-clause-touches
@@ -66,25 +66,25 @@ entries-preserved g c =
     let ahead : option_copied c.entries.next ≡ Some e = ap option_copied c.in-Some.is in
     let t = subst (λ (a : Option Entry). TakenTo g.S.Site c.args.options.now c.args.snapshots.now c.args.numbers.now c.entries.numbers c.args.memory.now (option_copied c.entries.front) a c.entries.output c.args.site.now c.entries.site c.entries.counter) ahead c.entries.invariant in
     let now : TakenTo g.S.Site c.args.options.now c.args.snapshots.now c.args.numbers.now c.if-not-follows_alike.numbers c.args.memory.now (Some e) (option_copied c.after-next-in-entries.result) c.if-not-follows_alike.output c.args.site.now c.if-not-follows_alike.site (c.entries.counter + 1) =
-        elim c.if-not-follows_alike.branch [
-          | then-not-follows_alike+in_ok-add w ↦
-              subst (λ (n : ℕ). TakenTo g.S.Site c.args.options.now c.args.snapshots.now c.args.numbers.now n c.args.memory.now (Some e) (option_copied c.after-next-in-entries.result) c.if-not-follows_alike.output c.args.site.now c.if-not-follows_alike.site (c.entries.counter + 1)) (sym w.numbers-is)
-              (subst (λ (o : State). TakenTo g.S.Site c.args.options.now c.args.snapshots.now c.args.numbers.now w.add.new.numbers c.args.memory.now (Some e) (option_copied c.after-next-in-entries.result) o c.args.site.now c.if-not-follows_alike.site (c.entries.counter + 1)) (sym w.output-is)
-              (subst (λ x. TakenTo g.S.Site c.args.options.now c.args.snapshots.now c.args.numbers.now w.add.new.numbers c.args.memory.now (Some e) (option_copied c.after-next-in-entries.result) w.add.new.self c.args.site.now x (c.entries.counter + 1)) (sym w.site-is)
-              (adds_on g.S.Site c.args.options.now c.args.snapshots.now c.show_range.ensures c.newest_stands_first.ensures c.after_is_next.ensures.next c.args.numbers.now c.entries.numbers c.entries.counter c.args.memory.now (option_copied c.entries.front) e
-              (option_copied c.after-next-in-entries.result) c.entries.output c.args.site.now c.entries.site t c.ascends.ensures.ascending c.after-next-in-entries.ensures c.outputs_write_what_they_are_given.ensures.added
-              (sym c.follows_alike.ensures ∙ w.if-not-follows_alike.true)
-              (is_in g.S.Site c.args.options.now c.args.snapshots.now c.show_range.ensures c.newest_stands_first.ensures c.after_is_next.ensures.next c.args.numbers.now c.entries.numbers c.entries.counter c.args.memory.now (option_copied c.entries.front) e
-              (after e.key true c.args.memory.now) c.entries.output c.args.site.now c.entries.site t c.ascends.ensures.ascending refl (λ x. IsProper x × IsPlainKind x.key.kind) c.requires).0
-              w.add.new.numbers w.add.new.self w.add.new.site w.in_ok-add.ensures.added w.in_ok-add.ensures.usable w.add.ensures.draws w.add.ensures.touches w.add.ensures.tells_nothing w.in_ok-add.ensures.asked)))
-          | else-not-follows_alike w ↦
-              subst (λ (n : ℕ). TakenTo g.S.Site c.args.options.now c.args.snapshots.now c.args.numbers.now n c.args.memory.now (Some e) (option_copied c.after-next-in-entries.result) c.if-not-follows_alike.output c.args.site.now c.if-not-follows_alike.site (c.entries.counter + 1)) (sym w.numbers-is)
-              (subst (λ (o : State). TakenTo g.S.Site c.args.options.now c.args.snapshots.now c.args.numbers.now c.entries.numbers c.args.memory.now (Some e) (option_copied c.after-next-in-entries.result) o c.args.site.now c.if-not-follows_alike.site (c.entries.counter + 1)) (sym w.output-is)
-              (subst (λ x. TakenTo g.S.Site c.args.options.now c.args.snapshots.now c.args.numbers.now c.entries.numbers c.args.memory.now (Some e) (option_copied c.after-next-in-entries.result) c.entries.output c.args.site.now x (c.entries.counter + 1)) (sym w.site-is)
-              (passes_on g.S.Site c.args.options.now c.args.snapshots.now c.show_range.ensures c.newest_stands_first.ensures c.after_is_next.ensures.next c.args.numbers.now c.entries.numbers c.entries.counter c.args.memory.now (option_copied c.entries.front) e
-              (option_copied c.after-next-in-entries.result) c.entries.output c.args.site.now c.entries.site t c.ascends.ensures.ascending c.after-next-in-entries.ensures
-              (sym c.follows_alike.ensures ∙ w.if-not-follows_alike.false))))
-        ] in
+    elim c.if-not-follows_alike.branch [
+      | then-not-follows_alike+in_ok-add w ↦
+          subst (λ (n : ℕ). TakenTo g.S.Site c.args.options.now c.args.snapshots.now c.args.numbers.now n c.args.memory.now (Some e) (option_copied c.after-next-in-entries.result) c.if-not-follows_alike.output c.args.site.now c.if-not-follows_alike.site (c.entries.counter + 1)) (sym w.numbers-is)
+          (subst (λ (o : State). TakenTo g.S.Site c.args.options.now c.args.snapshots.now c.args.numbers.now w.add.new.numbers c.args.memory.now (Some e) (option_copied c.after-next-in-entries.result) o c.args.site.now c.if-not-follows_alike.site (c.entries.counter + 1)) (sym w.output-is)
+          (subst (λ x. TakenTo g.S.Site c.args.options.now c.args.snapshots.now c.args.numbers.now w.add.new.numbers c.args.memory.now (Some e) (option_copied c.after-next-in-entries.result) w.add.new.self c.args.site.now x (c.entries.counter + 1)) (sym w.site-is)
+          (adds_on g.S.Site c.args.options.now c.args.snapshots.now c.show_range.ensures c.newest_stands_first.ensures c.after_is_next.ensures.next c.args.numbers.now c.entries.numbers c.entries.counter c.args.memory.now (option_copied c.entries.front) e
+          (option_copied c.after-next-in-entries.result) c.entries.output c.args.site.now c.entries.site t c.ascends.ensures.ascending c.after-next-in-entries.ensures c.outputs_write_what_they_are_given.ensures.added
+          (sym c.follows_alike.ensures ∙ w.if-not-follows_alike.true)
+          (is_in g.S.Site c.args.options.now c.args.snapshots.now c.show_range.ensures c.newest_stands_first.ensures c.after_is_next.ensures.next c.args.numbers.now c.entries.numbers c.entries.counter c.args.memory.now (option_copied c.entries.front) e
+          (after e.key true c.args.memory.now) c.entries.output c.args.site.now c.entries.site t c.ascends.ensures.ascending refl (λ x. IsProper x × IsPlainKind x.key.kind) c.requires).0
+          w.add.new.numbers w.add.new.self w.add.new.site w.in_ok-add.ensures.added w.in_ok-add.ensures.usable w.add.ensures.draws w.add.ensures.touches w.add.ensures.tells_nothing w.in_ok-add.ensures.asked)))
+      | else-not-follows_alike w ↦
+          subst (λ (n : ℕ). TakenTo g.S.Site c.args.options.now c.args.snapshots.now c.args.numbers.now n c.args.memory.now (Some e) (option_copied c.after-next-in-entries.result) c.if-not-follows_alike.output c.args.site.now c.if-not-follows_alike.site (c.entries.counter + 1)) (sym w.numbers-is)
+          (subst (λ (o : State). TakenTo g.S.Site c.args.options.now c.args.snapshots.now c.args.numbers.now c.entries.numbers c.args.memory.now (Some e) (option_copied c.after-next-in-entries.result) o c.args.site.now c.if-not-follows_alike.site (c.entries.counter + 1)) (sym w.output-is)
+          (subst (λ x. TakenTo g.S.Site c.args.options.now c.args.snapshots.now c.args.numbers.now c.entries.numbers c.args.memory.now (Some e) (option_copied c.after-next-in-entries.result) c.entries.output c.args.site.now x (c.entries.counter + 1)) (sym w.site-is)
+          (passes_on g.S.Site c.args.options.now c.args.snapshots.now c.show_range.ensures c.newest_stands_first.ensures c.after_is_next.ensures.next c.args.numbers.now c.entries.numbers c.entries.counter c.args.memory.now (option_copied c.entries.front) e
+          (option_copied c.after-next-in-entries.result) c.entries.output c.args.site.now c.entries.site t c.ascends.ensures.ascending c.after-next-in-entries.ensures
+          (sym c.follows_alike.ensures ∙ w.if-not-follows_alike.false))))
+    ] in
     subst (λ (a : Option Entry). TakenTo g.S.Site c.args.options.now c.args.snapshots.now c.args.numbers.now c.if-not-follows_alike.numbers c.args.memory.now a (option_copied c.after-next-in-entries.result) c.if-not-follows_alike.output c.args.site.now c.if-not-follows_alike.site (c.entries.counter + 1)) (sym ahead) now
 
 pub returns-clause-at : goal.returns-clause-at

@@ -1,19 +1,17 @@
 use Rattle.std.proofs.Common.{ap, sym, subst, Ok, Option, Some, None}
 use Rattle.bl_edit.specs.Bounds.{FitsWords}
 use Rattle.bl_edit.specs.declared.edit.Edit.{Edit}
-use Rattle.bl_edit.specs.Reading.{no_field}
 use Rattle.bl_out.specs.Held.{HoldsOut}
 use Rattle.bl_out.specs.Outputs.{IsSealedAs, Out, finished, next_file}
 use Rattle.bl_out.specs.States.{AreFilled, IsOut}
 use Rattle.bl_out.specs.declared.sealed.Sealed.{Sealed}
-use Rattle.bl_flush.specs.Jobs.{with_sealed}
 use Rattle.bl_flush.proofs.SealedLemmas.{IsSealing, edit_done, fewer_left, held_done, sealing_goes_on, sealing_starts, touches_so}
 use Rattle.bl_flush.proofs.flush.seal_all.Goals as goal
 
 pub files-init : goal.files-init
 files-init g c =
     let start = sealing_starts g.S.Site c.args.output c.args.site.now (λ shown. g.met.S.Site.only shown c.args.site.now) (λ shown. g.met.S.Site.only_now shown c.args.site.now) c.requires.usable c.requires.there
-        (record { log_number = tt; next_file = tt; sizes = tt; totals = tt; garbage = tt }) in
+    (record { log_number = tt; next_file = tt; sizes = tt; totals = tt; garbage = tt }) in
     subst (λ (e : Edit). IsSealing g.S.Site c.args.output c.args.output e c.args.site.now c.args.site.now) (sym c.new-edit.ensures) start
 
 pub files-smaller : goal.files-smaller

@@ -72,7 +72,7 @@ returns-clause-asked g c =
     let a = c.args.self.now in let z = c.write_entry.new.self in
     let first = c.in_ok-make_room.ensures in
     let all = acts_join g.S.Site c.in_ok-make_room.field-0 c.write_entry.result a c.make_room.new.self z c.args.site.now c.make_room.new.site c.write_entry.new.site
-        (range_with_len c.make_room.new.numbers c.write_entry.ensures.draws.made) first.becomes.certain c.write_entry.ensures.draws.drawn first.acts c.write_entry.ensures.acts in
+    (range_with_len c.make_room.new.numbers c.write_entry.ensures.draws.made) first.becomes.certain c.write_entry.ensures.draws.drawn first.acts c.write_entry.ensures.acts in
     let b = c.begins_table-begins.result in let l = is_large c.make_room.new.self.options.min_blob_size c.args.entry.now in let held = is_some c.make_room.new.self.blob in
     let drawn = draws_join (if b then 1 else 0) (if (l && not held) then 1 else 0) a c.make_room.new.self z c.args.numbers.now c.make_room.new.numbers c.write_entry.new.numbers c.make_room.ensures.draws c.write_entry.ensures.draws in
     let acts : Acts g.S.Site (Ok c.in_ok-write_entry.field-0) a z c.args.site.now c.write_entry.new.site = subst (λ r. Acts g.S.Site r a z c.args.site.now c.write_entry.new.site) c.in_ok-write_entry.was all in
