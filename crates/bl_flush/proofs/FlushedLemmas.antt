@@ -16,7 +16,7 @@ use Rattle.bl_out.specs.Reads.{AreBehind, OutputsAreRead, OutputsFit}
 use Rattle.bl_out.specs.Tables.{table_entries}
 use Rattle.bl_out.specs.Written.{IsPlainKind, Writes}
 use Rattle.bl_flush.specs.Flushing.{Flushes}
-use Rattle.bl_flush.specs.Jobs.{AreWritten, added_of, flushed, next_of}
+use Rattle.bl_flush.specs.Jobs.{ArePutsAndDeletions, added_of, flushed, next_of}
 use Rattle.bl_flush.specs.Laws.{FlushesMakeKept, MakesKept}
 use Rattle.bl_flush.proofs.KeptBehind.{kept_are_behind}
 use Rattle.bl_flush.proofs.Making.{all_filter}
@@ -34,7 +34,7 @@ pub ok_both : {T E : Type 0} (r : Result T E) (P F Q : T → Type 0) → IfOk r 
 ok_both (Ok x) P F Q p f to = to x p f
 ok_both (Err e) P F Q p f to = tt
 
-module _ (makes : FlushesMakeKept) (options : Values) (snapshots : List ℕ) (from : ℕ) (memory : List Entry) (range : AreInRange options) (written : AreWritten memory) where
+module _ (makes : FlushesMakeKept) (options : Values) (snapshots : List ℕ) (from : ℕ) (memory : List Entry) (range : AreInRange options) (written : ArePutsAndDeletions memory) where
   abbrev m : MakesKept options snapshots from memory
   m = makes options snapshots from memory range written
 

@@ -29,7 +29,7 @@ use Rattle.bl_edit.specs.declared.edit.BlobAddition.{BlobAddition}
 use Rattle.bl_edit.specs.declared.edit.NewTable.{NewTable}
 use Rattle.bl_memtab.specs.Laws.{AfterIsNext}
 use Rattle.bl_memtab.specs.Tables.{after}
-use Rattle.bl_flush.specs.Flushing.{IsAt, Refuses}
+use Rattle.bl_flush.specs.Flushing.{IsAt, RefusesFlush}
 use Rattle.bl_flush.specs.Jobs.{added_of, all_added, next_behind, next_of}
 use Rattle.bl_flush.proofs.KeptMore.{added_behind, kept_more, kept_same, next_more}
 
@@ -262,7 +262,7 @@ module _ {S : Type 0} (g : Ghosts S) (options : Values) (snapshots : List ℕ) (
 
     pub refused : (e : JobErr) → out.Refuses g e s s_new next next_new site site_new
         → ((n : ℕ) → e ≡ Full n → (next_new ≡ 10 ^ 15) × (10 ^ 15 < next + made_for (added_of options snapshots from taken) x))
-        → Refuses g e (next_of options snapshots from memory) from next_new start site_new
+        → RefusesFlush g e (next_of options snapshots from memory) from next_new start site_new
     refused e r full =
         let above : from ≤ next = at.above in
         let next_now : next_new ≡ next + d.made = d.next in
@@ -288,7 +288,7 @@ module _ {S : Type 0} (g : Ghosts S) (options : Values) (snapshots : List ℕ) (
         by false is = let k = r.stays is in nothing k.0 k.1.next k.1.site at.asked
 
   -- a refusal before any entry
-  pub refused_before : NewestStandsFirst → (from : ℕ) (memory : List Entry) (site : S) (e : JobErr) → IsAscending memory → e ≡ OutOfMemory → Refuses g e (next_of options snapshots from memory) from from site site
+  pub refused_before : NewestStandsFirst → (from : ℕ) (memory : List Entry) (site : S) (e : JobErr) → IsAscending memory → e ≡ OutOfMemory → RefusesFlush g e (next_of options snapshots from memory) from from site site
   refused_before law from memory site e up is =
       let le : next_of options snapshots from [] ≤ next_of options snapshots from ([] ++ memory) = next_up law from [] memory up in
       record { upwards = omega arith; within = le; asked = inr (inr (is, refl, refl)); full = λ f. absurd (not_full (sym is ∙ f)) }
@@ -353,7 +353,7 @@ module _ {S : Type 0} (g : Ghosts S) (options : Values) (snapshots : List ℕ) (
 
     pub refuses_on : follows_alike snapshots front e ≡ false → (err : JobErr) (next_new : ℕ) (s_new : State) (site_new : S) → ((o : Out) → IsOut o s → Draws (made_for o e) s s_new next next_new) → out.Refuses g err s s_new next next_new site site_new
         → ((o : Out) → IsOut o s → (n : ℕ) → err ≡ Full n → (next_new ≡ 10 ^ 15) × (10 ^ 15 < next + made_for o e))
-        → Refuses g err (next_of options snapshots from memory) from next_new start site_new
+        → RefusesFlush g err (next_of options snapshots from memory) from next_new start site_new
     refuses_on other err next_new s_new site_new draws r full =
         refused from next next_new es h.more memory e s s_new start site site_new t.taken.at whole up law (ap (λ f. follows_alike snapshots f e) (sym t.taken.front_is) ∙ other) t.taken.next_is (draws (added_of options snapshots from es) t.taken.at.out) err r
         (λ n is. full (added_of options snapshots from es) t.taken.at.out n is)

@@ -30,7 +30,7 @@ pub record Flushes (options : Values) (from next : ℕ) (snapshots : List ℕ) (
   pub blobs : AllByRecursion (λ b. (b.named.number < next) × IsSynced disk (name_of (Blob b.named.number))) files.blobs
 
 -- After a refusal numbers were drawn for some files of the flush. The folder was asked, or no number was left, or memory ran out and nothing has changed. At `Full` all numbers are drawn, and the flush makes more files.
-pub record Refuses {S : Type 0} (g : Ghosts S) (e : JobErr) (wanted next_old next_new : ℕ) (old new : S) : Type 0 where
+pub record RefusesFlush {S : Type 0} (g : Ghosts S) (e : JobErr) (wanted next_old next_new : ℕ) (old new : S) : Type 0 where
   pub upwards : next_old ≤ next_new
   pub within : next_new ≤ wanted
   pub asked : Rose (g.changes old) (g.changes new) ⊎ ((e ≡ Full (10 ^ 15)) ⊎ ((e ≡ OutOfMemory) × (next_new ≡ next_old) × (new ≡ old)))
@@ -38,7 +38,7 @@ pub record Refuses {S : Type 0} (g : Ghosts S) (e : JobErr) (wanted next_old nex
 
 -- ---- on the way
 
--- The output is this one; its numbers are from one on up to below the next one; its files hold what was written, and nothing else has changed since the start.
+-- The output is this one, and no call of it has failed; its numbers are all those from one on up to below the next one; its files are there and hold what was written; since the start no other file has changed, nothing was told, no name call came into doubt, and the folder was asked or all is as it was.
 pub record IsAt {S : Type 0} (g : Ghosts S) (o : Out) (from next : ℕ) (s : State) (start site : S) : Type 0 where
   pub out : IsOut o s
   pub made : IsMade from next o

@@ -12,8 +12,8 @@ use Rattle.bl_out.specs.declared.sealed.Sealed.{Sealed}
 use Rattle.bl_out.specs.declared.sealed.Sealed.TheVariants as sealed
 
 -- proper puts and deletions
-abbrev pub AreWritten : List Entry → Type 0
-AreWritten es = AllByRecursion (λ e. IsProper e × IsPlainKind e.key.kind) es
+abbrev pub ArePutsAndDeletions : List Entry → Type 0
+ArePutsAndDeletions es = AllByRecursion (λ e. IsProper e × IsPlainKind e.key.kind) es
 
 -- the output behind several entries, and the next number then
 abbrev pub all_added : ℕ → Out → List Entry → Out

@@ -4,7 +4,7 @@ use Rattle.bl_entry.specs.declared.key.Entry.{Entry}
 use Rattle.bl_entry.specs.Kept.{kept}
 use Rattle.bl_edit.specs.Options.{AreInRange, Values}
 use Rattle.bl_out.specs.Made.{IsMade}
-use Rattle.bl_flush.specs.Jobs.{AreWritten, added_of, next_of}
+use Rattle.bl_flush.specs.Jobs.{ArePutsAndDeletions, added_of, next_of}
 
 -- What is added of a memory are its kept entries, with numbers from one on.
 pub record MakesKept (options : Values) (snapshots : List ℕ) (from : ℕ) (memory : List Entry) : Type 0 where
@@ -15,4 +15,4 @@ pub record MakesKept (options : Values) (snapshots : List ℕ) (from : ℕ) (mem
   pub above : from ≤ next_of options snapshots from memory
 
 abbrev pub FlushesMakeKept : Type 0
-FlushesMakeKept = (options : Values) (snapshots : List ℕ) (from : ℕ) (memory : List Entry) → AreInRange options → AreWritten memory → MakesKept options snapshots from memory
+FlushesMakeKept = (options : Values) (snapshots : List ℕ) (from : ℕ) (memory : List Entry) → AreInRange options → ArePutsAndDeletions memory → MakesKept options snapshots from memory

@@ -14,8 +14,8 @@ ghost use Rattle.bl_out.specs.Quiet.{TouchesOnly};
 ghost use Rattle.bl_out.specs.States.{AreThere, IsOut, names_of};
 ghost use Rattle.bl_out.specs.declared.error.JobErr.TheVariants.{Disk, OutOfMemory};
 ghost use Rattle.bl_memtab.specs.Laws.{least_key};
-ghost use Rattle.bl_flush.specs.Flushing.{Flushes, IsAt, Refuses};
-ghost use Rattle.bl_flush.specs.Jobs.{AreWritten, added_of, flushed, next_of, with_sealed};
+ghost use Rattle.bl_flush.specs.Flushing.{Flushes, IsAt, RefusesFlush};
+ghost use Rattle.bl_flush.specs.Jobs.{ArePutsAndDeletions, added_of, flushed, next_of, with_sealed};
 
 use crate::laws::flushes_make_what_is_kept;
 use crate::stripes::follows_alike;
@@ -67,10 +67,10 @@ fn add_kept<S: Site>(
     options: &Options,
     snapshots: &[u64],
 ) -> Result<Output, JobErr>
-    requires { AreWritten memory.now }
+    requires { ArePutsAndDeletions memory.now }
     ensures at { IfOk result (λ output. IsAt S.Site (added_of options.now snapshots.now numbers.old memory.now) numbers.old numbers.new output site.old site.new) }
     ensures numbers { OnOk result (numbers.new ≡ next_of options.now snapshots.now numbers.old memory.now) }
-    ensures refused { IfErr result (λ e. Refuses S.Site e (next_of options.now snapshots.now numbers.old memory.now) numbers.old numbers.new site.old site.new) }
+    ensures refused { IfErr result (λ e. RefusesFlush S.Site e (next_of options.now snapshots.now numbers.old memory.now) numbers.old numbers.new site.old site.new) }
     ensures touches { TouchesOnly S.Site (names_of (range_with_len numbers.old (numbers.new - numbers.old))) site.old site.new }
     ensures tells_nothing { TellsNothing S.Site site.old site.new }
     ensures causes { IfErr result IsAddCause }
@@ -135,8 +135,9 @@ fn seal_all<S: Site>(alloc: Global, site: &mut S, mut output: Output) -> Result<
 /// Writes what is kept of a memory for the snapshots: at most one table, in which large values are blob indexes, and the
 /// blob files with these values. The files are synced. The memory's entries are proper puts and deletions.
 ///
-/// Errors: `Disk`; `Full(10^15)`, where more files are to be made than numbers are left; `OutOfMemory`. Files with the numbers
-/// that were drawn may then be there or not, and hold anything; no other file has changed.
+/// Errors: `Disk`; `Full(10^15)`, where more files are to be made than numbers are left, unless another failure comes before
+/// it; `OutOfMemory`. Files with the numbers that were drawn may then be there or not, and hold anything; no other file has
+/// changed. Where memory ran out before the folder was asked nothing has changed.
 pub fn flush_all<S: Site>(
     alloc: Global,
     site: &mut S,
@@ -145,7 +146,7 @@ pub fn flush_all<S: Site>(
     options: &Options,
     snapshots: &[u64],
 ) -> Result<Edit, JobErr>
-    requires { AreWritten memory.now }
+    requires { ArePutsAndDeletions memory.now }
     // The files are a flush of the memory.
     ensures flushes { S.shows → IfOk result (Flushes options.now numbers.old numbers.new snapshots.now memory.now (S.disk site.new)) }
     // Which files are made, exactly: each has one number, and no other is drawn.
@@ -154,7 +155,9 @@ pub fn flush_all<S: Site>(
     ensures holds { S.shows → OnOk result (HoldsOut (S.disk site.new) (flushed options.now snapshots.now numbers.old memory.now)) }
     ensures bounds { IfOk result (λ edit. IsEdit edit × FitsWords edit) }
     ensures certain { S.shows → S.certain site.old → OnOk result (S.certain site.new) }
-    ensures refused { IfErr result (λ e. Refuses S.Site e (next_of options.now snapshots.now numbers.old memory.now) numbers.old numbers.new site.old site.new) }
+    ensures refused { IfErr result (λ e. RefusesFlush S.Site e (next_of options.now snapshots.now numbers.old memory.now) numbers.old numbers.new site.old site.new) }
+    // At Ok the folder was asked, or no file is made and the site is as it was.
+    ensures asked { OnOk result (Rose (S.changes site.old) (S.changes site.new) ⊎ ((site.new ≡ site.old) × (numbers.new ≡ numbers.old))) }
     // Only files whose numbers it drew change.
     ensures touches { TouchesOnly S.Site (names_of (range_with_len numbers.old (numbers.new - numbers.old))) site.old site.new }
     ensures tells_nothing { TellsNothing S.Site site.old site.new }

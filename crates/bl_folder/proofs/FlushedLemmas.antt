@@ -31,7 +31,7 @@ use Rattle.bl_out.proofs.StoredLemmas.{IndexIsSpelled}
 use Rattle.bl_folder.proofs.OneLemmas.{blob_of, blobs_are, pair_is}
 use Rattle.bl_folder.proofs.ReachLemmas.{table_of, tables_are}
 use Rattle.bl_out.proofs.WrittenLemmas.{IndexIsRead}
-use Rattle.bl_folder.specs.FlushLaws.{FlushesApply, FlushesKeepFiles, FlushesKeepFronts, FlushesKeepMaps, FlushesStand, FlushesStandFirst, HasInstalled, HeldAreWhole}
+use Rattle.bl_folder.specs.FlushLaws.{FlushesApply, FlushesKeepFiles, FlushesKeepFronts, FlushesKeepMaps, FlushesAreHeld, FlushesStand, FlushesStandFirst, HasInstalled, HeldAreWhole}
 use Rattle.bl_folder.specs.Flushes.{Follow, IsFlushOf, IsMemoryOf, IsWhole, KeepsMaps, blob_metas, flushed_to, installed, installed_edit, linked_file, metas}
 use Rattle.bl_folder.specs.Fronts.{cut_to, last_after}
 use Rattle.bl_folder.specs.Holding.{BlobFile, Holding, Holds, IsSpelled, blob_in}
@@ -209,6 +209,9 @@ module _ (reads : IndexIsRead) (spells : IndexIsSpelled) (version : LiveIsVersio
             (all_of_map (linked_file ts) (IsSpelled new) f.blobs (all_from (HasBlob new) (λ b. IsSpelled new (linked_file ts b)) f.blobs (λ b has. subst (λ o. IfSome o (λ bytes. IsBlobFile bytes b.records)) (sym has.there) has.spelled) i.files.blobs));
         batches = i.batches;
       }
+
+pub flushes_are_held : IndexIsRead → IndexIsSpelled → LiveIsVersion → LastIsCounted → FlushesAreHeld
+flushes_are_held reads spells version counted old new manifest there h count from log next snapshots memory f holds o i = holds_after reads spells version counted old new manifest there h count from log next snapshots memory f holds o i
 
 pub flushes_stand : IndexIsRead → IndexIsSpelled → KeptTellTheSame → LiveIsVersion → LastIsCounted → FlushesStand
 flushes_stand reads spells tell version counted old new manifest there h found m count from log next snapshots memory f holds sound o i =

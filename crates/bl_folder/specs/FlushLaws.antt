@@ -45,7 +45,7 @@ FlushesKeepFronts = (h : Holding) (found : List Revision) (m : Map) (count from 
     → IsWhole h → IsSound (cut_to (count + more) h) found m → IsFlushOf h count from snapshots memory f
     → KeepsMaps snapshots (flushed_to count h) found (cut_to more (installed h count log next f)) m
 
--- The new folder has the files of the flush besides those of the old one, its live part is the one behind the edit, and its logs from the new log number on have the batches that remain.
+-- The new folder has the files of the flush and, as in the old one, those of the old version, its live part is the one behind the edit, and its logs from the new log number on have the batches that remain.
 pub record HasInstalled (old new : Folder) (manifest : ℕ) (h : Holding) (count log next : ℕ) (f : Flushed) : Type 0 where
   pub live : IsLive new manifest (installed h count log next f).live
   pub tables : AllByRecursion (λ t. file new (Table t.number) ≡ file old (Table t.number)) h.live.version.tables
@@ -53,7 +53,12 @@ pub record HasInstalled (old new : Folder) (manifest : ℕ) (h : Holding) (count
   pub files : HasFlush new f
   pub batches : HaveBatches new log (flushed_to count h) (drop count h.batches) h.last
 
--- Such a folder stands for the map of the old one,
+-- Such a folder holds what is installed,
+abbrev pub FlushesAreHeld : Type 0
+FlushesAreHeld = (old new : Folder) (manifest there : ℕ) (h : Holding) (count from log next : ℕ) (snapshots : List ℕ) (memory : List Entry) (f : Flushed)
+    → Holds old manifest h → IsFlushOf h count from snapshots memory f → HasInstalled old new there h count log next f → Holds new there (installed h count log next f)
+
+-- so it stands for the map of the old one,
 abbrev pub FlushesStand : Type 0
 FlushesStand = (old new : Folder) (manifest there : ℕ) (h : Holding) (found : List Revision) (m : Map) (count from log next : ℕ) (snapshots : List ℕ) (memory : List Entry) (f : Flushed)
     → Holds old manifest h → IsSound h found m → IsFlushOf h count from snapshots memory f → HasInstalled old new there h count log next f

@@ -89,7 +89,7 @@ installed h count log next f = record {
   last = h.last;
 }
 
--- No file is left out of the version: each blob file stays with its account, and the new ones follow.
+-- The tables and blob files that are held are those of the version, and of its blob files the old ones stay first, each with its account.
 pub record KeepsFiles (h next : Holding) : Type 0 where
   pub tables : metas next.tables ≡ next.live.version.tables
   pub blobs : blob_metas next.blobs ≡ next.live.version.blobs

@@ -22,12 +22,12 @@ standing_behind s e = record {
   options = unwrap_or e.options s.options;
 }
 
--- Records and one more that is an edit, which is applied, restore the version behind it and what stands beside that.
+-- Records and one more that is an edit, which is applied, restore, where the next file number is at most 10 ^ 15 then, the version behind it and what stands beside that.
 abbrev pub OneEditMore : Type 0
 OneEditMore = (rs : List (List ℕ)) (live : Restored) (bytes : List ℕ) (e : Edit) (v : Listing) → restored rs ≡ Some live → read_edit bytes ≡ Ok e → apply live.version e ≡ Ok v → (standing_behind live.standing e).next_file ≤ 10 ^ 15
     → restored (rs ++ bytes ∷ []) ≡ Some (record { version = v; standing = standing_behind live.standing e })
 
--- So a manifest with the edit of a flush behind its others restores what is installed then.
+-- So a manifest with the edit of a flush, in bounds, behind its others restores what is installed then.
 abbrev pub FlushesRestore : Type 0
 FlushesRestore = (rs : List (List ℕ)) (h : Holding) (count from log next : ℕ) (snapshots : List ℕ) (memory : List Entry) (f : Flushed) → restored rs ≡ Some h.live → IsWhole h → IsFlushOf h count from snapshots memory f
     → IsEdit (edit_for h count log next f) → FitsWords (edit_for h count log next f) → next ≤ 10 ^ 15

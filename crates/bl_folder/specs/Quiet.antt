@@ -27,7 +27,7 @@ abbrev pub QuietCutsKeepNeeded : Type 0
 QuietCutsKeepNeeded = (names : List Name) (disk : Disk) (told : List ℕ) (c : Cut) (manifest : ℕ) (live : Restored) → NoneIsNeeded names manifest live
     → (like : IsLikeCut names disk told c) → KeepsNeeded manifest live like.cut.folder c.folder
 
--- So does the disk behind the call leave it as the disk before.
+-- So does the folder behind the call leave it as the folder before.
 abbrev pub OthersKeepNeeded : Type 0
 OthersKeepNeeded = (names : List Name) (old new : Folder) (manifest : ℕ) (live : Restored) → NoneIsNeeded names manifest live
     → ((name : Name) → IsNoneOf names name → new name ≡ old name) → KeepsNeeded manifest live old new

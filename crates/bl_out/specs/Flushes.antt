@@ -40,7 +40,7 @@ pub record IsNewTable (from : ℕ) (t : TableFile) : Type 0 where
   pub number : from ≤ t.meta.number
   pub named : IsAsNamed t
 
--- a blob file of at least one record, with its totals, with a number from this one on; with header and footer it has less than 2 ^ 63 bytes
+-- a blob file of at least one record, with its totals, whose number is one that a file may have, from this one on; with header and footer it has less than 2 ^ 63 bytes
 pub record IsNewBlob (from : ℕ) (b : NewBlob) : Type 0 where
   pub number : from ≤ b.named.number
   pub fits : IsTrue (is_number b.named.number)
@@ -56,7 +56,7 @@ pub record IsFlush (threshold from : ℕ) (snapshots : List ℕ) (memory : List 
   pub ascend : IsStrictlySortedBy nat_cmp (map (λ b. b.named.number) f.blobs)
   pub writes : Writes threshold (stored f.blobs) (kept snapshots false memory) (table_entries f.tables)
 
--- a blob file of these records is there, spelled as the grammar of blob files says
+-- a blob file of these records is there, spelled as the grammar of blob files says, and is read as these
 pub record HasBlob (folder : Folder) (b : NewBlob) : Type 0 where
   pub bytes : List ℕ
   pub there : file folder (Blob b.named.number) ≡ Some bytes

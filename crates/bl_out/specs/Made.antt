@@ -21,7 +21,7 @@ pub record IsTableFrom (from : ℕ) (t : OutTable) : Type 0 where
   pub number : from ≤ t.number
   pub some : 1 ≤ length t.entries
 
--- A blob file has a number from this one on, and some records, each in bounds. It is closed exactly where it has the size; so without its last record it had it not.
+-- A blob file has a number from this one on, and some records, each in bounds. It is closed exactly where it has the size, and passes that by less than 2 ^ 25 bytes.
 pub record IsBlobFrom (from size : ℕ) (b : OutBlob) : Type 0 where
   pub number : from ≤ b.number
   pub some : 1 ≤ length b.records
@@ -29,7 +29,7 @@ pub record IsBlobFrom (from size : ℕ) (b : OutBlob) : Type 0 where
   pub closed : b.closed ≡ nat_le size (blob_size b.records)
   pub within : blob_size b.records < size + 2 ^ 25
 
--- What an output with no sealed file has made, with numbers from one on up to below the next one: it writes what it was given, into one table where it shall, and its last table is open.
+-- What an output of options in range with no sealed file has made, with ascending numbers from one on up to below the next one: it writes what it was given, into one table where it shall, and its last table is open.
 pub record IsMade (from next : ℕ) (o : Out) : Type 0 where
   pub options : AreInRange o.options
   pub writes : Writes o.options.min_blob_size (all_stored o.blobs) o.given (all_entries o.tables)

@@ -1,4 +1,4 @@
--- What follows in a file.
+-- What follows in a file, and a flag that tells whether the folder was asked.
 use Rattle.std.specs.Prelude.{◌≡◌, ◌⊎◌, ℕ, Bool, true, false, List, ◌++◌}
 use Rattle.bl_site.specs.Disk.{Disk, Name}
 use Rattle.bl_site.specs.Calls.{Appends}
@@ -11,7 +11,7 @@ pub record Follows (name : Name) (were are : List ℕ) (old new : Disk) : Type 0
   pub behind : are ≡ were ++ bytes
   pub appends : Appends name bytes bytes old new
 
--- A flag is set before the folder is asked, and stays where it was set; where it is not set, the folder was not asked.
+-- A flag that is set stays so, and is set only where the folder was asked, which counts; where it is not set, the site is as it was.
 pub record IsSetOnceAsked {S : Type 0} (g : Ghosts S) (old new : Bool) (site_old site_new : S) : Type 0 where
   pub was_set : old ≡ true → new ≡ true
   pub asked : new ≡ true → (old ≡ true) ⊎ Rose (g.changes site_old) (g.changes site_new)

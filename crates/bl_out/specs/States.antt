@@ -42,7 +42,7 @@ pub record BlobHand : Type 0 where
   pub totals : Totals
 
 -- An output in memory: the closed tables and the one in hand, the closed blob files and the one in hand, the numbers of all files in the order in which they were drawn,
--- how many files are sealed, and whether a call has failed.
+-- how many files are sealed, and whether a call was refused after it asked the folder or for want of numbers.
 pub record State : Type 0 where
   pub options : Values
   pub one_table : Bool
@@ -148,14 +148,14 @@ AreThere disk s =
     × AllByRecursion (λ t. IsSome (disk (name_of (Table t.number)))) (drop s.sealed s.tables)
     × AllByRecursion (λ b. IsSome (disk (name_of (Blob b.number)))) (drop (s.sealed - length s.tables) s.blobs)
 
--- It is a memory of each output so changed whose memory it was; and where the files held what was written of such an output in order, they hold what is written of it now.
+-- It is a memory of each output so changed whose memory it was; where the files held what was written of such an output in order, they hold what is written of it now; the files not sealed yet are in the folder if they were, and no name call is in doubt if none was.
 pub record Becomes {S : Type 0} (g : Ghosts S) (next : ℕ) (change : Out → Out) (old new : State) (site_old site_new : S) : Type 0 where
   pub out : (o : Out) → IsOut o old → IsOut (change o) new
   pub holds : g.shows → (o : Out) → IsOut o old → IsOrdered next o → HoldsOut (g.disk site_old) o → HoldsOut (g.disk site_new) (change o)
   pub there : g.shows → AreThere (g.disk site_old) old → AreThere (g.disk site_new) new
   pub certain : g.shows → g.certain site_old → g.certain site_new
 
--- Of so many files that are to be made some first ones are made, or in doubt, and each has a number drawn for it.
+-- Of so many numbers some first ones are drawn, upwards from the next one: they follow in the list, and the next number is behind them.
 pub record Draws (files : ℕ) (old new : State) (next_old next_new : ℕ) : Type 0 where
   pub made : ℕ
   pub within : made ≤ files

@@ -1,4 +1,4 @@
--- The parts of which taking an entry is made.
+-- The parts of which taking an entry and sealing a file are made.
 use Rattle.std.specs.Prelude.{◌≡◌, ◌⊎◌, ℕ, ◌+◌, ◌^◌, not, Bool, true, false, [], ◌∷◌, ◌++◌, length, Result, IfErr, IsErrOf, IsSomeAnd, if◌then◌else◌}
 use Rattle.bl_site.specs.Causes.{Rose}
 use Rattle.bl_site.specs.Disk.{Name}
@@ -82,13 +82,13 @@ IsNext name o = IsSomeAnd (next_file o) (λ f. name ≡ name_of (name_in f))
 
 -- ---- what a part of a call does
 
--- the options, and how many files are sealed, are as they were
+-- the options, whether all entries go into one table, and how many files are sealed are as they were
 pub record Keeps (old new : State) : Type 0 where
   pub options : new.options ≡ old.options
   pub one_table : new.one_table ≡ old.one_table
   pub sealed : new.sealed ≡ old.sealed
 
--- Whatever it answers, it touches only files of the numbers drawn; it has failed from when it asked the folder on, or because no number was left; and before that only memory may have run out.
+-- Whatever it answers, it touches only files of the numbers drawn; it has failed from when it asked the folder on, or because no number was left; before that nothing was asked or drawn, and only memory may have run out. It tells nothing, is refused for the causes of taking an entry alone, and for `Disk` only where that count rose.
 pub record Acts {S T : Type 0} (g : Ghosts S) (result : Result T JobErr) (old new : State) (site_old site_new : S) : Type 0 where
   pub touches : TouchesOnly g (names_of new.drawn) site_old site_new
   pub tells_nothing : TellsNothing g site_old site_new

@@ -15,7 +15,7 @@ use bl_site::Site;
 
 /// The bytes follow in the file, which is in the folder. It takes no memory of its own.
 ///
-/// Errors: `Disk`, and `OutOfMemory` of the folder. Some first bytes may then follow.
+/// Errors: `Disk`, after which any bytes may follow, at most as many as these; `OutOfMemory` of the folder, after which none do.
 pub(crate) fn append<S: Site>(site: &mut S, name: &str, bytes: &[u8]) -> Result<(), JobErr>
     requires { S.shows → IsSome (S.disk site.old name.now) }
     ensures appended { S.shows → OnOk result (Appends name.now bytes.now bytes.now (S.disk site.old) (S.disk site.new)) }
@@ -66,7 +66,7 @@ fn append_head<S: Site>(site: &mut S, name: &str, is_first: bool, head: &[u8]) -
 /// A record follows in a blob file, which is in the folder, behind the header where it is the first. The value is
 /// handed on as it is: nothing is copied, and no memory is taken.
 ///
-/// Errors: `Disk`, and `OutOfMemory` of the folder. Some first bytes may then follow.
+/// Errors: `Disk`, and `OutOfMemory` of the folder. Any bytes may then follow, at most as many as were to be appended.
 pub(crate) fn append_record<S: Site>(
     site: &mut S,
     name: &str,

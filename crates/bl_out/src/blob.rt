@@ -105,7 +105,7 @@ impl BlobInHand {
     /// A record more follows in the file, which is in the folder; its totals are then these. Nothing is copied, and no memory
     /// taken.
     ///
-    /// Errors: `Disk`, and `OutOfMemory` of the folder. Some first bytes may then follow.
+    /// Errors: `Disk`, and `OutOfMemory` of the folder. Any bytes may then follow, at most as many as were to be appended.
     pub(crate) fn write<S: Site>(
         &mut self,
         site: &mut S,

@@ -29,7 +29,7 @@ pub(crate) fn create<S: Site>(site: &mut S, name: &str) -> Result<(), JobErr>
 
 /// All bytes of the file, which is in the folder, are put on the disk. It takes no memory of its own.
 ///
-/// Errors: `Disk`, and `OutOfMemory` of the folder.
+/// Errors: `Disk`, after which the bytes that were not synced may read as any others; `OutOfMemory` of the folder.
 pub(crate) fn sync<S: Site>(site: &mut S, name: &str) -> Result<(), JobErr>
     requires { S.shows → IsSome (S.disk site.old name.now) }
     ensures synced { S.shows → OnOk result (Syncs name.now (S.disk site.old) (S.disk site.new)) }

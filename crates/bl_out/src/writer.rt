@@ -107,7 +107,7 @@ fn referring(alloc: Global, entry: &Entry, index: &BlobIndex) -> Result<Entry, J
     ensures proper { IfOk result IsProper }
     ensures memory { IfErr result (λ e. e ≡ OutOfMemory) }
 {
-    let value = encode_index(alloc, index)?;
+    let value = encode_index(alloc, index).map_err(|_| JobErr::OutOfMemory)?;
     let user = Octets::from_slice(alloc, entry.key.user.as_slice())?;
     Ok(Entry {
         key: InternalKey {
@@ -121,7 +121,8 @@ fn referring(alloc: Global, entry: &Entry, index: &BlobIndex) -> Result<Entry, J
 
 impl Output {
     /// Nothing is given, and no file made. With `one_table` all entries go into one table; else a table is closed by the size
-    /// of the options, between two user keys. It takes no memory.
+    /// of the options, between two user keys. A blob file is closed by the record with which its header and records come to
+    /// `blob_file_size` bytes. It takes no memory.
     pub fn begin(alloc: Global, options: &Options, one_table: bool) -> Output
         ensures begun { IsOut (begun options.now one_table) result }
         ensures usable { result.failed ≡ false }
@@ -145,8 +146,9 @@ impl Output {
     /// file is sealed, and those that are written are in the folder.
     ///
     /// Errors: `Disk`; `Full(10^15)`, where more files are to be made than numbers are left, unless another failure comes
-    /// before it; `OutOfMemory`. After each it has failed, except where memory ran out before the folder was asked: then all
-    /// is as before.
+    /// before it; `OutOfMemory`, also for an entry more of a table of which more than 2^62 bytes were given, and a record with
+    /// which a blob file comes to 2^63. After each it has failed, and its files may hold anything, except where memory ran
+    /// out before the folder was asked: then all is as before.
     pub fn add<S: Site>(
         &mut self,
         alloc: Global,
@@ -163,7 +165,8 @@ impl Output {
         ensures usable { OnOk result (self.new.failed ≡ false) }
         // One number for each file that is made.
         ensures draws { (o : Out) → IsOut o self.old → Draws (made_for o entry.now) self.old self.new numbers.old numbers.new }
-        ensures full { (o : Out) → IsOut o self.old → (n : ℕ) → result ≡ Err (Full n) → (numbers.new ≡ 10 ^ 15) × (10 ^ 15 < numbers.old + made_for o entry.now) }
+        ensures full { (n : ℕ) → result ≡ Err (Full n) → numbers.new ≡ 10 ^ 15 }
+        ensures wanted { (o : Out) → IsOut o self.old → (n : ℕ) → result ≡ Err (Full n) → 10 ^ 15 < numbers.old + made_for o entry.now }
         ensures refused { IfErr result (λ e. Refuses S.Site e self.old self.new numbers.old numbers.new site.old site.new) }
         // At Ok the folder was asked, or no file begins and the site is as it was.
         ensures asked { OnOk result (Rose (S.changes site.old) (S.changes site.new) ⊎ ((site.new ≡ site.old) × (numbers.new ≡ numbers.old))) }
@@ -179,7 +182,7 @@ impl Output {
         Ok(())
     }
 
-    /// The numbers of the files that it has made, in the order in which they were drawn.
+    /// The numbers drawn for its files, in the order in which they were drawn.
     ///
     /// Errors: `OutOfMemory` alone.
     pub fn outputs(&self, alloc: Global) -> Result<Vec<u64>, JobErr>
@@ -196,7 +199,8 @@ impl Output {
         self.drawn
     }
 
-    /// Whether a call of it has failed. Then only `failed`, `outputs` and `abandon` may follow.
+    /// Whether a call of it was refused after it asked the folder, or because no number was left. Then only `failed`,
+    /// `outputs` and `abandon` may follow.
     pub fn failed(&self) -> bool
         ensures { result ≡ self.now.failed }
     {

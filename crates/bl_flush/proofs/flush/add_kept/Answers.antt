@@ -8,7 +8,7 @@ use Rattle.bl_memtab.specs.Tables.{after}
 use Rattle.bl_flush.proofs.TakenLemmas.{TakenTo, adds_on, at_end, at_start, is_in, passes_on, refused_before, refuses_on, touches_on}
 use Rattle.bl_out.specs.States.{State}
 use Rattle.bl_out.specs.declared.error.JobErr.{JobErr}
-use Rattle.bl_flush.specs.Flushing.{Refuses}
+use Rattle.bl_flush.specs.Flushing.{RefusesFlush}
 use Rattle.bl_flush.specs.Jobs.{next_of}
 use Rattle.bl_flush.proofs.flush.add_kept.Goals as goal
 use Rattle.bl_flush.proofs.flush.add_kept.Goals.{then-not-follows_alike+in_ok-add, else-not-follows_alike, else-entries-test, then-entries-test+in_default}
@@ -49,8 +49,8 @@ returns-in_err-add-clause-refused g c =
     let p = err_from_is_err_and c.from_residual-in_err-add.result c.from_residual-in_err-add.ensures.1 in
     let why = refuses_on g.S.Site c.args.options.now c.args.snapshots.now c.show_range.ensures c.newest_stands_first.ensures c.after_is_next.ensures.next c.args.numbers.now c.entries.numbers c.entries.counter c.args.memory.now (option_copied c.entries.front) e
     (after e.key true c.args.memory.now) c.entries.output c.args.site.now c.entries.site t c.ascends.ensures.ascending refl (sym c.follows_alike.ensures ∙ c.if-not-follows_alike.true)
-    c.in_err-add.field-0.0 c.add.new.numbers c.add.new.self c.add.new.site c.add.ensures.draws c.in_err-add.ensures.refused (λ o out n is. c.in_err-add.ensures.full o out n (ap Err is)) in
-    rw p.1 (subst (λ (x : JobErr). Refuses g.S.Site x (next_of c.args.options.now c.args.snapshots.now c.args.numbers.now c.args.memory.now) c.args.numbers.now c.add.new.numbers c.args.site.now c.add.new.site) (sym p.2) why)
+    c.in_err-add.field-0.0 c.add.new.numbers c.add.new.self c.add.new.site c.add.ensures.draws c.in_err-add.ensures.refused (λ o out n is. (c.in_err-add.ensures.full n (ap Err is), c.in_err-add.ensures.wanted o out n (ap Err is))) in
+    rw p.1 (subst (λ (x : JobErr). RefusesFlush g.S.Site x (next_of c.args.options.now c.args.snapshots.now c.args.numbers.now c.args.memory.now) c.args.numbers.now c.add.new.numbers c.args.site.now c.add.new.site) (sym p.2) why)
 
 pub returns-in_err-add-clause-touches : goal.returns-in_err-add-clause-touches
 returns-in_err-add-clause-touches g c =

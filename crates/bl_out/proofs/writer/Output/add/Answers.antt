@@ -23,7 +23,12 @@ returns-in_err-write_entry-clause-draws g c = λ o is.
     (draws_join (if b then 1 else 0) (if (l && not held) then 1 else 0) a mid c.write_entry.new.self c.args.numbers.now c.make_room.new.numbers c.write_entry.new.numbers c.make_room.ensures.draws c.write_entry.ensures.draws)
 
 pub returns-in_err-write_entry-clause-full : goal.returns-in_err-write_entry-clause-full
-returns-in_err-write_entry-clause-full g c = λ o is n full.
+returns-in_err-write_entry-clause-full g c = λ n full.
+    let p = err_from_is_err_and c.from_residual-in_err-write_entry.result c.from_residual-in_err-write_entry.ensures.1 in
+    (c.in_err-write_entry.ensures.full n (ap Err (sym p.2) ∙ sym p.1 ∙ full)).1
+
+pub returns-in_err-write_entry-clause-wanted : goal.returns-in_err-write_entry-clause-wanted
+returns-in_err-write_entry-clause-wanted g c = λ o is n full.
     let a = c.args.self.now in let mid = c.make_room.new.self in let e = c.args.entry.now in
     let b = c.begins_table-begins.result in let l = is_large mid.options.min_blob_size e in let held = is_some mid.blob in
     let large : is_large o.options.min_blob_size e ≡ l = ap (λ (v : Values). is_large v.min_blob_size e) (is.options ∙ sym c.make_room.ensures.keeps.options) in
@@ -31,7 +36,7 @@ returns-in_err-write_entry-clause-full g c = λ o is n full.
     let made = made_is o e b l held (sym (c.begins_table-begins.ensures.begins o is)) large has in
     let p = err_from_is_err_and c.from_residual-in_err-write_entry.result c.from_residual-in_err-write_entry.ensures.1 in
     let f = c.in_err-write_entry.ensures.full n (ap Err (sym p.2) ∙ sym p.1 ∙ full) in
-    (f.1, subst (λ (m : ℕ). 10 ^ 15 < c.args.numbers.now + m) made (too_many b (l && not held) c.args.numbers.now c.make_room.new.numbers c.in_ok-make_room.ensures.next f.2 f.0))
+    subst (λ (m : ℕ). 10 ^ 15 < c.args.numbers.now + m) made (too_many b (l && not held) c.args.numbers.now c.make_room.new.numbers c.in_ok-make_room.ensures.next f.2 f.0)
 
 pub returns-in_err-write_entry-clause-touches : goal.returns-in_err-write_entry-clause-touches
 returns-in_err-write_entry-clause-touches g c =
