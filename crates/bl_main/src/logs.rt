@@ -1,10 +1,15 @@
 //! Logs whose reading ends before their bytes do.
-ghost use Rattle.std.specs.Prelude.{◌≡◌, ◌≢◌, IfOk, MatchOption, map, string_bytes};
+ghost use Rattle.std.specs.Prelude.{◌≡◌, ◌≢◌, ℕ, IfOk, OnOk, MatchOption, map, string_bytes};
+ghost use Rattle.std.specs.BTreeMap.{IsOrdered};
+ghost use Rattle.std.specs.Ordering.{nat_cmp};
 ghost use Rattle.bl_site.specs.Disk.{folder_of};
+ghost use Rattle.bl_names.specs.Names.{IsNameOf};
+ghost use Rattle.bl_names.specs.declared.name.FileName.TheVariants.{Log};
 ghost use Rattle.bl_main.specs.Ends.{EndsAt, Tells, TellsEach};
+ghost use Rattle.bl_main.specs.Logs.{AreLogsOf, TakesLog};
 
 use bl_log::EndCause;
-use bl_names::{FileName, parse_name};
+use bl_names::{FileName, names_one, parse_name};
 use bl_records::{NextRecord, RecordErr, RecordReader};
 use bl_site::{Site, SiteErr};
 use std::alloc::{AllocError, AllocFailed, Global};
@@ -115,15 +120,38 @@ fn early_end<S: Site>(alloc: Global, site: &mut S, name: &str) -> Result<Option<
 /// The names of logs, by number.
 pub type Logs = BTreeMap<u64, String>;
 
-/// The logs of the folder.
+// The number of the log of this name, if it is a log's.
+fn log_number(name: &str) -> Option<u64>
+    ensures { MatchOption result ((number : ℕ) → IsNameOf name.now (Log number) → ⊥) (λ number. IsNameOf name.now (Log number)) }
+{
+    match parse_name(name) {
+        Some(FileName::Log(number)) => Some(number),
+        _ => None,
+    }
+}
+
+// The name joins the others where it is a log's.
+fn put_log(logs: &mut Logs, name: String) -> Result<(), LookErr>
+    ensures put { OnOk result (TakesLog name logs.old logs.new) }
+    ensures ordered { IsOrdered nat_cmp logs.old → IsOrdered nat_cmp logs.new }
+{
+    if let Some(number) = log_number(name.as_str()) {
+        logs.insert(number, name)?;
+    }
+    Ok(())
+}
+
+/// The logs of the folder, in order of number.
 ///
 /// Errors: `LookErr`.
-pub fn list_logs<S: Site>(alloc: Global, site: &mut S) -> Result<Logs, LookErr> {
+pub fn list_logs<S: Site>(alloc: Global, site: &mut S) -> Result<Logs, LookErr>
+    ensures logs { S.shows → IfOk result (AreLogsOf (folder_of (S.disk site.old))) }
+    ensures stays { S.shows → S.disk site.new ≡ S.disk site.old }
+{
+    names_one();
     let mut logs = BTreeMap::new(alloc);
     for name in site.list(alloc)? {
-        if let Some(FileName::Log(number)) = parse_name(name.as_str()) {
-            logs.insert(number, name)?;
-        }
+        put_log(&mut logs, name)?;
     }
     Ok(logs)
 }

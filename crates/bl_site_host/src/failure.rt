@@ -1,9 +1,6 @@
-//! The last failure, in words that tell a person what to mend.
-ghost use Rattle.std.specs.Prelude.{◌≡◌, ◌⊎◌, []};
-ghost use Rattle.std.specs.String.{string_bytes};
-ghost use Rattle.bl_site_host.specs.Failures.{IsNoted, error_of as error_of_lem, error_in as error_in_lem};
+//! A failure, in words that tell a person what to mend.
+ghost use Rattle.bl_site_host.specs.Failures.{IsFailureOf};
 
-use crate::faults::Fault;
 use std::alloc::Global;
 use std::{fmt, io};
 
@@ -42,9 +39,7 @@ pub struct Failure {
 
 impl Failure {
     pub(crate) fn new(alloc: Global, asked: Asked, name: &str, error: io::Error) -> Failure
-        ensures asked { result.asked ≡ asked }
-        ensures name { (string_bytes result.name ≡ name.now) ⊎ (string_bytes result.name ≡ []) }
-        ensures error { result.error ≡ error }
+        ensures { IsFailureOf asked name.now error result }
     {
         let name = match String::from_str(alloc, name) {
             Ok(name) => name,
@@ -69,39 +64,5 @@ impl fmt::Display for Failure {
             Asked::Remove => write!(f, "remove {name}: {error}"),
             Asked::Tell => write!(f, "write to standard output: {error}"),
         }
-    }
-}
-
-// What the system said, if it failed.
-fn error_of(fault: Fault) -> Option<io::Error>
-    ensures { result ≡ error_of_lem fault }
-{
-    match fault {
-        Fault::Disk(error) => Some(error),
-        Fault::Memory => None,
-    }
-}
-
-pub(crate) fn error_in<T>(done: &Result<T, Fault>) -> Option<io::Error>
-    ensures { result ≡ error_in_lem done.now }
-{
-    match done {
-        Ok(_) => None,
-        Err(fault) => error_of(*fault),
-    }
-}
-
-// Keeps a failure of the system; anything else leaves the last one.
-pub(crate) fn note(
-    alloc: Global,
-    last: &mut Option<Failure>,
-    asked: Asked,
-    name: &str,
-    error: Option<io::Error>,
-)
-    ensures { IsNoted asked error last.old last.new }
-{
-    if let Some(error) = error {
-        *last = Some(Failure::new(alloc, asked, name, error));
     }
 }

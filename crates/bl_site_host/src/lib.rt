@@ -11,7 +11,9 @@ mod guard;
 mod handles;
 mod host;
 mod input;
+mod keeper;
 mod moving;
+mod output;
 mod site;
 mod system;
 
@@ -20,6 +22,8 @@ pub use guard::{FolderLock, LockErr, Streams};
 pub use input::HostSource;
 pub use site::HostSite;
 
+#[cfg(test)]
+mod held;
 #[cfg(test)]
 mod recorder;
 #[cfg(test)]

@@ -1,15 +1,14 @@
 //! The current folder and standard output as a site.
-ghost use Rattle.std.specs.Prelude.{◌≡◌, [], None, OnOk};
-ghost use Rattle.std.specs.Io.KnownBytes.{Appends};
+ghost use Rattle.std.specs.Prelude.{◌≡◌, [], None};
+ghost use Rattle.std.specs.Option.{option_copied};
 
-use crate::failure::{Asked, Failure, error_in, note};
+use crate::failure::Failure;
 use crate::faults::counted;
-use crate::folder::Folder;
 use crate::host::Host;
-use crate::moving::write_whole;
+use crate::keeper::Keeper;
 use bl_site::{Site, SiteErr};
 use std::alloc::Global;
-use std::io::{self, Write};
+use std::io;
 use std::rt::Files;
 
 /// The current folder with standard output as a site. It shows no content.
@@ -20,11 +19,10 @@ use std::rt::Files;
 /// the disk, no later `sync` or name call is answered `Ok`: it may have dropped bytes that it still shows.
 #[derive(Drop)]
 pub struct HostSite<R: Files + Print + AllocGlobal + Clone + Drop> {
-    folder: Folder<Host<R>>,
+    keeper: Keeper<Host<R>>,
     disk_faults: u64,
     tell_faults: u64,
     changes: u64,
-    last: Option<Failure>,
 }
 
 impl<R: Files + Print + AllocGlobal + Clone + Drop> HostSite<R> {
@@ -35,30 +33,19 @@ impl<R: Files + Print + AllocGlobal + Clone + Drop> HostSite<R> {
         ensures changes { ⟦<HostSite<R> as Site>⟧.changes result ≡ 0 }
     {
         HostSite {
-            folder: Folder::new(rt.alloc(), Host::new(rt)),
+            keeper: Keeper::new(rt.alloc(), Host::new(rt)),
             disk_faults: 0,
             tell_faults: 0,
             changes: 0,
-            last: None,
         }
     }
 
     /// The last call that failed, or `None` where none has but for want of memory.
-    pub fn last_failure(&self) -> Option<&Failure> {
-        self.last.as_ref()
+    pub fn last_failure(&self) -> Option<&Failure>
+        ensures { option_copied result ≡ self.now.keeper.failures.last }
+    {
+        self.keeper.failures.last()
     }
-
-    fn alloc(&self) -> Global {
-        self.folder.system.rt.alloc()
-    }
-}
-
-// Writes all of the bytes out.
-fn told<W: Write>(output: &mut W, bytes: &[u8]) -> io::Result<()>
-    ensures all { OnOk result (Appends (W.contents output.old) (W.contents output.new) bytes.now) }
-{
-    write_whole(output, bytes)?;
-    output.flush()
 }
 
 impl<R: Files + Print + AllocGlobal + Clone + Drop> Site for HostSite<R> {
@@ -95,14 +82,7 @@ impl<R: Files + Print + AllocGlobal + Clone + Drop> Site for HostSite<R> {
     ghost only_now = { λ shown. absurd shown };
 
     fn len(&mut self, name: &str) -> Result<Option<u64>, SiteErr> {
-        let done = self.folder.length(name);
-        note(
-            self.alloc(),
-            &mut self.last,
-            Asked::Length,
-            name,
-            error_in(&done),
-        );
+        let done = self.keeper.length(name);
         counted(&mut self.disk_faults, done)
     }
 
@@ -112,97 +92,48 @@ impl<R: Files + Print + AllocGlobal + Clone + Drop> Site for HostSite<R> {
         offset: u64,
         into: &mut [u8],
     ) -> Result<Option<usize>, SiteErr> {
-        let done = self.folder.read(name, offset, into);
-        note(
-            self.alloc(),
-            &mut self.last,
-            Asked::Read,
-            name,
-            error_in(&done),
-        );
+        let done = self.keeper.read(name, offset, into);
         counted(&mut self.disk_faults, done)
     }
 
     fn list(&mut self, alloc: Global) -> Result<Vec<String>, SiteErr> {
-        let done = self.folder.names(alloc);
-        note(
-            self.alloc(),
-            &mut self.last,
-            Asked::List,
-            "",
-            error_in(&done),
-        );
+        let done = self.keeper.names(alloc);
         counted(&mut self.disk_faults, done)
     }
 
     fn create(&mut self, name: &str) -> Result<(), SiteErr> {
         self.changes = self.changes.saturating_add(1);
-        let done = self.folder.create(name);
-        note(
-            self.alloc(),
-            &mut self.last,
-            Asked::Create,
-            name,
-            error_in(&done),
-        );
+        let done = self.keeper.create(name);
         counted(&mut self.disk_faults, done)
     }
 
     fn append(&mut self, name: &str, bytes: &[u8]) -> Result<(), SiteErr> {
         self.changes = self.changes.saturating_add(1);
-        let done = self.folder.append(name, bytes);
-        note(
-            self.alloc(),
-            &mut self.last,
-            Asked::Append,
-            name,
-            error_in(&done),
-        );
+        let done = self.keeper.append(name, bytes);
         counted(&mut self.disk_faults, done)
     }
 
     fn sync(&mut self, name: &str) -> Result<(), SiteErr> {
         self.changes = self.changes.saturating_add(1);
-        let done = self.folder.sync(name);
-        note(
-            self.alloc(),
-            &mut self.last,
-            Asked::Sync,
-            name,
-            error_in(&done),
-        );
+        let done = self.keeper.sync(name);
         counted(&mut self.disk_faults, done)
     }
 
     fn rename(&mut self, from: &str, to: &str) -> Result<(), SiteErr> {
         self.changes = self.changes.saturating_add(1);
-        let done = self.folder.rename(from, to);
-        note(
-            self.alloc(),
-            &mut self.last,
-            Asked::Rename,
-            from,
-            error_in(&done),
-        );
+        let done = self.keeper.rename(from, to);
         counted(&mut self.disk_faults, done)
     }
 
     fn remove(&mut self, name: &str) -> Result<(), SiteErr> {
         self.changes = self.changes.saturating_add(1);
-        let done = self.folder.remove(name);
-        note(
-            self.alloc(),
-            &mut self.last,
-            Asked::Remove,
-            name,
-            error_in(&done),
-        );
+        let done = self.keeper.remove(name);
         counted(&mut self.disk_faults, done)
     }
 
     fn tell(&mut self, bytes: &[u8]) -> Result<(), SiteErr> {
-        if let Err(error) = told(&mut io::writer(&self.folder.system.rt), bytes) {
-            note(self.alloc(), &mut self.last, Asked::Tell, "", Some(error));
+        let output = &mut io::writer(&self.keeper.folder.system.rt);
+        if self.keeper.failures.tell(output, bytes).is_err() {
             self.tell_faults = self.tell_faults.saturating_add(1);
             return Err(SiteErr::TellFailed);
         }

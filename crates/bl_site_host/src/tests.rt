@@ -152,6 +152,13 @@ fn the_host_keeps_files(rt: HostRuntime) -> Result<(), Fail> {
     let listed = site.list(alloc).map_err(failed)?;
     site.remove("bl_site_host_test_b").map_err(failed)?;
     let missing = site.append("bl_site_host_test_b", b"x");
+    let Some(failure) = site.last_failure() else {
+        return Err(Fail::from("no failure"));
+    };
+    let text = format!(in alloc; "{failure}")?;
+    if text.as_str() != "append to bl_site_host_test_b: no such file" {
+        return Err(Fail::from("failure"));
+    }
     if length != Some(4) || gone != None || count != Some(3) || none != None {
         return Err(Fail::from("lengths"));
     }
