@@ -1,11 +1,16 @@
 -- The logs among some names, and one name more.
-use Rattle.std.proofs.Common.{◌≡◌, ◌∙◌, ◌↔◌, ℕ, List, [], ◌∷◌, ◌++◌, Bool, true, false, cond, Option, None, Some, String, Global, string_bytes, map, refl, sym, ap, subst, ◌⊎◌, inl, inr, IsSome}
+use Rattle.std.proofs.Common.{◌≡◌, ◌∙◌, ◌↔◌, ℕ, zero, suc, arith, List, [], ◌∷◌, ◌++◌, Bool, true, false, cond, Option, None, Some, String, Global, string_bytes, map, refl, sym, ap, subst, ◌⊎◌, inl, inr, IsSome}
 use Rattle.std.specs.Prelude.{MatchOption}
 use Rattle.std.specs.List.{Contains}
+use Rattle.std.specs.List.Sorted.{IsStrictlySortedBy}
+use Rattle.std.specs.Option.{option_map}
+use Rattle.std.proofs.lemmas.List.{map-append}
+use Rattle.std.proofs.lemmas.List.Elements.{Contains-append_cases, Contains-append_left, Contains-append_right}
 use Rattle.std.specs.Cmp.{ranked}
 use Rattle.std.specs.Ordering.{is_eq, nat_cmp}
 use Rattle.std.specs.declared.cmp.Ordering.TheVariants.{Less, Equal, Greater}
-use Rattle.std.specs.BTreeMap.{BTreeMap, get, is_at}
+use Rattle.std.specs.BTreeMap.{BTreeMap, IsOrdered, get, is_at}
+use Rattle.std.specs.Map.{keys_of, lookup}
 use Rattle.bl_site.specs.Disk.{Name, Disk, File, folder_of}
 use Rattle.bl_names.specs.declared.name.FileName.{FileName}
 use Rattle.bl_names.specs.declared.name.FileName.TheVariants.{Current, Manifest, Log, Table, Blob, Temp}
@@ -67,6 +72,47 @@ taken law was now name old new more takes logs = λ q. elim takes [
         subst (IsKeptAt now q) (sym here) (kept_on was now (string_bytes name) q (get nat_cmp old q) more not (logs q))
   ]
   | inr t ↦
-      let here : get nat_cmp new q ≡ get nat_cmp old q = ap (λ es. get nat_cmp (record { entries = es }) q) t.1 in
+      let here : get nat_cmp new q ≡ get nat_cmp old q = ap (λ es. lookup (is_at (nat_cmp q)) es) t.1 in
       subst (IsKeptAt now q) (sym here) (kept_on was now (string_bytes name) q (get nat_cmp old q) more (t.0 q) (logs q))
 ]
+
+-- the names, and one more
+pub one_more_name : (names : List (String Global)) (name : String Global) (x : Name)
+    → Contains (map string_bytes (names ++ name ∷ [])) x ↔ (Contains (map string_bytes names) x ⊎ (string_bytes name ≡ x))
+one_more_name names name x =
+    let joined : map string_bytes (names ++ name ∷ []) ≡ map string_bytes names ++ string_bytes name ∷ [] = map-append string_bytes names (name ∷ []) in
+    (
+      λ t. elim (Contains-append_cases (map string_bytes names) (string_bytes name ∷ []) x (subst (λ (l : List Name). Contains l x) joined t)) [ inl a ↦ inl a | inr b ↦ inr (only b) ],
+      λ t. subst (λ (l : List Name). Contains l x) (sym joined) (elim t [
+        | inl a ↦ Contains-append_left (map string_bytes names) (string_bytes name ∷ []) x a
+        | inr e ↦ Contains-append_right (map string_bytes names) (string_bytes name ∷ []) x (0, omega arith, e)
+      ]),
+    )
+  where
+    only : Contains (string_bytes name ∷ []) x → string_bytes name ≡ x
+    only (zero, lt, e) = e
+    only (suc k, lt, e) = absurd (omega (arith, lt))
+
+-- there is no log yet
+pub no_log : (logs : BTreeMap ℕ (String Global)) → logs.entries ≡ [] → HasLogs (λ x. Contains [] x) logs
+no_log logs empty = λ q. subst (λ es. IsKeptAt (λ (x : Name). Contains [] x) q (lookup (is_at (nat_cmp q)) es)) (sym empty) (λ number there. absurd (omega (arith, there.1)))
+
+pub none_ascend : (logs : BTreeMap ℕ (String Global)) → logs.entries ≡ [] → IsOrdered nat_cmp logs
+unfolding IsStrictlySortedBy
+none_ascend logs empty = subst (λ es. IsStrictlySortedBy nat_cmp (keys_of es)) (sym empty) tt
+
+-- the names listed are those of the files that are there
+pub listed : (disk : Disk) (names : List (String Global)) (logs : BTreeMap ℕ (String Global)) → ((x : Name) → Contains (map string_bytes names) x ↔ IsSome (disk x))
+    → HasLogs (λ x. Contains (map string_bytes names) x) logs → HasLogs (λ x. IsSome (folder_of disk x)) logs
+listed disk names logs there has = λ q. elim (get nat_cmp logs q) as (λ o. IsKeptAt (λ x. Contains (map string_bytes names) x) q o → IsKeptAt (λ x. IsSome (folder_of disk x)) q o) [
+  | None ↦ λ kept number some. kept number ((there (name_of (Log q))).1 (was_there (disk (name_of (Log q))) some))
+  | Some s ↦ λ kept. (kept.0, reads (disk (string_bytes s)) ((there (string_bytes s)).0 kept.1))
+] (has q)
+  where
+    reads : (o : Option File) → IsSome o → IsSome (option_map (λ (file : File). file.read) o)
+    reads None t = cc t
+    reads (Some file) t = refl
+
+    was_there : (o : Option File) → IsSome (option_map (λ (file : File). file.read) o) → IsSome o
+    was_there None t = cc t
+    was_there (Some file) t = refl

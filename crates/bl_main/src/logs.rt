@@ -124,10 +124,11 @@ pub type Logs = BTreeMap<u64, String>;
 fn log_number(name: &str) -> Option<u64>
     ensures { MatchOption result ((number : ℕ) → IsNameOf name.now (Log number) → ⊥) (λ number. IsNameOf name.now (Log number)) }
 {
-    match parse_name(name) {
-        Some(FileName::Log(number)) => Some(number),
-        _ => None,
-    }
+    let file = parse_name(name)?;
+    let FileName::Log(number) = file else {
+        return None;
+    };
+    Some(number)
 }
 
 // The name joins the others where it is a log's.
