@@ -1,5 +1,5 @@
 -- The logs among some names, and one name more.
-use Rattle.std.proofs.Common.{◌≡◌, ◌∙◌, ◌↔◌, ℕ, zero, suc, arith, List, [], ◌∷◌, ◌++◌, Bool, true, false, cond, Option, None, Some, String, Global, string_bytes, map, refl, sym, ap, subst, ◌⊎◌, inl, inr, IsSome}
+use Rattle.std.proofs.Common.{◌≡◌, ◌∙◌, ◌↔◌, ℕ, zero, suc, arith, List, [], ◌∷◌, ◌++◌, true, false, cond, Option, None, Some, String, Global, string_bytes, map, refl, sym, ap, subst, ◌⊎◌, inl, inr, IsSome}
 use Rattle.std.specs.Prelude.{MatchOption}
 use Rattle.std.specs.List.{Contains}
 use Rattle.std.specs.List.Sorted.{IsStrictlySortedBy}
@@ -66,9 +66,9 @@ taken law was now name old new more takes logs = λ q. elim takes [
     | inr other ↦
         let here : get nat_cmp new q ≡ get nat_cmp old q = t.2 q ∙ ap (λ b. cond b (Some name) (get nat_cmp old q)) other in
         let not : IsNameOf (string_bytes name) (Log q) → ⊥ =
-            λ named. let same : t.0 ≡ q = one_number law (string_bytes name) t.0 q t.1 named in
-            let at : is_at (nat_cmp t.0) q ≡ true = ap (λ n. is_at (nat_cmp n) q) same ∙ itself q in
-            cc (at, other) in
+        λ named. let same : t.0 ≡ q = one_number law (string_bytes name) t.0 q t.1 named in
+        let at : is_at (nat_cmp t.0) q ≡ true = ap (λ n. is_at (nat_cmp n) q) same ∙ itself q in
+        cc (at, other) in
         subst (IsKeptAt now q) (sym here) (kept_on was now (string_bytes name) q (get nat_cmp old q) more not (logs q))
   ]
   | inr t ↦
@@ -80,8 +80,7 @@ taken law was now name old new more takes logs = λ q. elim takes [
 pub one_more_name : (names : List (String Global)) (name : String Global) (x : Name)
     → Contains (map string_bytes (names ++ name ∷ [])) x ↔ (Contains (map string_bytes names) x ⊎ (string_bytes name ≡ x))
 one_more_name names name x =
-    let joined : map string_bytes (names ++ name ∷ []) ≡ map string_bytes names ++ string_bytes name ∷ [] = map-append string_bytes names (name ∷ []) in
-    (
+    let joined : map string_bytes (names ++ name ∷ []) ≡ map string_bytes names ++ string_bytes name ∷ [] = map-append string_bytes names (name ∷ []) in (
       λ t. elim (Contains-append_cases (map string_bytes names) (string_bytes name ∷ []) x (subst (λ (l : List Name). Contains l x) joined t)) [ inl a ↦ inl a | inr b ↦ inr (only b) ],
       λ t. subst (λ (l : List Name). Contains l x) (sym joined) (elim t [
         | inl a ↦ Contains-append_left (map string_bytes names) (string_bytes name ∷ []) x a

@@ -1,3 +1,4 @@
 mod Moved
 mod Sound
 mod Changed
+mod Kept

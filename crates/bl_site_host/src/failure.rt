@@ -1,4 +1,5 @@
 //! A failure, in words that tell a person what to mend.
+ghost use Rattle.std.specs.Prelude.{◌≡◌};
 ghost use Rattle.bl_site_host.specs.Failures.{IsFailureOf};
 
 use std::alloc::Global;
@@ -39,7 +40,8 @@ pub struct Failure {
 
 impl Failure {
     pub(crate) fn new(alloc: Global, asked: Asked, name: &str, error: io::Error) -> Failure
-        ensures { IsFailureOf asked name.now error result }
+        ensures of { IsFailureOf asked name.now result }
+        ensures error { result.error ≡ error }
     {
         let name = match String::from_str(alloc, name) {
             Ok(name) => name,

@@ -1,11 +1,12 @@
 //! The last failure, of a folder's calls and of the output's.
-ghost use Rattle.std.specs.Prelude.{◌≡◌, ◌≤◌, ◌∷◌, [], List, Option, None, Some, Ok, true, length, take, map, IfOk, IfSome, OnOk};
+ghost use Rattle.std.specs.Prelude.{◌≡◌, ◌≢◌, ◌≤◌, ◌∷◌, [], List, Option, None, Some, Ok, true, length, take, map, IfOk, IfErr, IfSome, OnOk};
 ghost use Rattle.std.specs.Option.{option_copied};
 ghost use Rattle.std.specs.String.{string_bytes};
 ghost use Rattle.std.specs.Io.KnownBytes.{Appends};
 ghost use Rattle.bl_site.specs.Disk.{Name};
 ghost use Rattle.bl_site_host.specs.Changes.{Changes, IsMaking, IsWriting, IsRenaming, IsRemoving};
 ghost use Rattle.bl_site_host.specs.Events.{Looked, Listing, Read, Wrote, SyncedFile, Renamed, Removed, IsNewest, IsOn, IsMade, IsOnDisk, files_of, found_of};
+ghost use Rattle.bl_site_host.specs.declared.faults.Fault.TheVariants.{Memory};
 ghost use Rattle.bl_site_host.specs.Failures.{IsKept, IsPut};
 ghost use Rattle.bl_site_host.specs.Handles.{IsSound, StaysSound};
 
@@ -57,6 +58,7 @@ impl Failures {
     pub(crate) fn tell<W: Output>(&mut self, output: &mut W, bytes: &[u8]) -> Result<(), Fault>
         ensures all { OnOk result (Appends (W.contents output.old) (W.contents output.new) bytes.now) }
         ensures flushed { OnOk result (W.flushed output.new ≡ W.contents output.new) }
+        ensures disk { IfErr result (λ fault. fault ≢ Memory) }
         ensures kept { IsKept Asked.Tell [] result self.old.last self.new.last }
     {
         let done = changed(told(output, bytes));

@@ -1,8 +1,10 @@
 //! The current folder and standard output as a site.
-ghost use Rattle.std.specs.Prelude.{◌≡◌, [], None};
+ghost use Rattle.std.specs.Prelude.{◌≡◌, ◌≤◌, [], None, length, IfOk, IfSome};
 ghost use Rattle.std.specs.Option.{option_copied};
+ghost use Rattle.bl_site.specs.Causes.{one_more, HasDiskCause, HasTellCause};
+ghost use Rattle.bl_site_host.specs.Failures.{IsLast};
 
-use crate::failure::Failure;
+use crate::failure::{Asked, Failure};
 use crate::faults::counted;
 use crate::host::Host;
 use crate::keeper::Keeper;
@@ -81,7 +83,12 @@ impl<R: Files + Print + AllocGlobal + Clone + Drop> Site for HostSite<R> {
 
     ghost only_now = { λ shown. absurd shown };
 
-    fn len(&mut self, name: &str) -> Result<Option<u64>, SiteErr> {
+    fn len(&mut self, name: &str) -> Result<Option<u64>, SiteErr>
+        ensures kept { IsLast Asked.Length name.now result self.old.keeper.failures.last self.new.keeper.failures.last }
+        ensures cause { HasDiskCause self.old.disk_faults self.new.disk_faults result }
+        ensures tell_faults { self.new.tell_faults ≡ self.old.tell_faults }
+        ensures changes { self.new.changes ≡ self.old.changes }
+    {
         let done = self.keeper.length(name);
         counted(&mut self.disk_faults, done)
     }
@@ -91,47 +98,88 @@ impl<R: Files + Print + AllocGlobal + Clone + Drop> Site for HostSite<R> {
         name: &str,
         offset: u64,
         into: &mut [u8],
-    ) -> Result<Option<usize>, SiteErr> {
+    ) -> Result<Option<usize>, SiteErr>
+        ensures bound { IfOk result (λ r. IfSome r (λ count. count ≤ length into.new)) }
+        ensures kept { IsLast Asked.Read name.now result self.old.keeper.failures.last self.new.keeper.failures.last }
+        ensures cause { HasDiskCause self.old.disk_faults self.new.disk_faults result }
+        ensures tell_faults { self.new.tell_faults ≡ self.old.tell_faults }
+        ensures changes { self.new.changes ≡ self.old.changes }
+    {
         let done = self.keeper.read(name, offset, into);
         counted(&mut self.disk_faults, done)
     }
 
-    fn list(&mut self, alloc: Global) -> Result<Vec<String>, SiteErr> {
+    fn list(&mut self, alloc: Global) -> Result<Vec<String>, SiteErr>
+        ensures kept { IsLast Asked.List [] result self.old.keeper.failures.last self.new.keeper.failures.last }
+        ensures cause { HasDiskCause self.old.disk_faults self.new.disk_faults result }
+        ensures tell_faults { self.new.tell_faults ≡ self.old.tell_faults }
+        ensures changes { self.new.changes ≡ self.old.changes }
+    {
         let done = self.keeper.names(alloc);
         counted(&mut self.disk_faults, done)
     }
 
-    fn create(&mut self, name: &str) -> Result<(), SiteErr> {
+    fn create(&mut self, name: &str) -> Result<(), SiteErr>
+        ensures kept { IsLast Asked.Create name.now result self.old.keeper.failures.last self.new.keeper.failures.last }
+        ensures cause { HasDiskCause self.old.disk_faults self.new.disk_faults result }
+        ensures tell_faults { self.new.tell_faults ≡ self.old.tell_faults }
+        ensures changes { self.new.changes ≡ one_more self.old.changes }
+    {
         self.changes = self.changes.saturating_add(1);
         let done = self.keeper.create(name);
         counted(&mut self.disk_faults, done)
     }
 
-    fn append(&mut self, name: &str, bytes: &[u8]) -> Result<(), SiteErr> {
+    fn append(&mut self, name: &str, bytes: &[u8]) -> Result<(), SiteErr>
+        ensures kept { IsLast Asked.Append name.now result self.old.keeper.failures.last self.new.keeper.failures.last }
+        ensures cause { HasDiskCause self.old.disk_faults self.new.disk_faults result }
+        ensures tell_faults { self.new.tell_faults ≡ self.old.tell_faults }
+        ensures changes { self.new.changes ≡ one_more self.old.changes }
+    {
         self.changes = self.changes.saturating_add(1);
         let done = self.keeper.append(name, bytes);
         counted(&mut self.disk_faults, done)
     }
 
-    fn sync(&mut self, name: &str) -> Result<(), SiteErr> {
+    fn sync(&mut self, name: &str) -> Result<(), SiteErr>
+        ensures kept { IsLast Asked.Sync name.now result self.old.keeper.failures.last self.new.keeper.failures.last }
+        ensures cause { HasDiskCause self.old.disk_faults self.new.disk_faults result }
+        ensures tell_faults { self.new.tell_faults ≡ self.old.tell_faults }
+        ensures changes { self.new.changes ≡ one_more self.old.changes }
+    {
         self.changes = self.changes.saturating_add(1);
         let done = self.keeper.sync(name);
         counted(&mut self.disk_faults, done)
     }
 
-    fn rename(&mut self, from: &str, to: &str) -> Result<(), SiteErr> {
+    fn rename(&mut self, from: &str, to: &str) -> Result<(), SiteErr>
+        ensures kept { IsLast Asked.Rename from.now result self.old.keeper.failures.last self.new.keeper.failures.last }
+        ensures cause { HasDiskCause self.old.disk_faults self.new.disk_faults result }
+        ensures tell_faults { self.new.tell_faults ≡ self.old.tell_faults }
+        ensures changes { self.new.changes ≡ one_more self.old.changes }
+    {
         self.changes = self.changes.saturating_add(1);
         let done = self.keeper.rename(from, to);
         counted(&mut self.disk_faults, done)
     }
 
-    fn remove(&mut self, name: &str) -> Result<(), SiteErr> {
+    fn remove(&mut self, name: &str) -> Result<(), SiteErr>
+        ensures kept { IsLast Asked.Remove name.now result self.old.keeper.failures.last self.new.keeper.failures.last }
+        ensures cause { HasDiskCause self.old.disk_faults self.new.disk_faults result }
+        ensures tell_faults { self.new.tell_faults ≡ self.old.tell_faults }
+        ensures changes { self.new.changes ≡ one_more self.old.changes }
+    {
         self.changes = self.changes.saturating_add(1);
         let done = self.keeper.remove(name);
         counted(&mut self.disk_faults, done)
     }
 
-    fn tell(&mut self, bytes: &[u8]) -> Result<(), SiteErr> {
+    fn tell(&mut self, bytes: &[u8]) -> Result<(), SiteErr>
+        ensures kept { IsLast Asked.Tell [] result self.old.keeper.failures.last self.new.keeper.failures.last }
+        ensures cause { HasTellCause self.old.tell_faults self.new.tell_faults result }
+        ensures disk_faults { self.new.disk_faults ≡ self.old.disk_faults }
+        ensures changes { self.new.changes ≡ self.old.changes }
+    {
         let output = &mut io::writer(&self.keeper.folder.system.rt);
         if self.keeper.failures.tell(output, bytes).is_err() {
             self.tell_faults = self.tell_faults.saturating_add(1);

@@ -1,0 +1,5 @@
+use Rattle.bl_site_host.proofs.Kept.{last_of}
+use Rattle.bl_site_host.proofs.site.HostSiteSite.create.Goals as goal
+
+pub returns-clause-kept : goal.returns-clause-kept
+returns-clause-kept g c = last_of _ _ _ _ c.create-done.result c.counted.result _ _ c.counted.ensures.answered c.create-done.ensures.kept

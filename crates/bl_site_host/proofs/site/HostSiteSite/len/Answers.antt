@@ -1,0 +1,5 @@
+use Rattle.bl_site_host.proofs.Kept.{last_of}
+use Rattle.bl_site_host.proofs.site.HostSiteSite.len.Goals as goal
+
+pub returns-clause-kept : goal.returns-clause-kept
+returns-clause-kept g c = last_of _ _ _ _ c.length-done.result c.counted.result _ _ c.counted.ensures.answered c.length-done.ensures.kept
