@@ -1,5 +1,6 @@
 //! A reader, as standard input, as a source. It shows no content.
-ghost use Rattle.std.specs.Prelude.{◌≡◌, ℕ, []};
+ghost use Rattle.std.specs.Prelude.{◌≡◌, ◌≤◌, ◌+◌, ◌-◌, ◌^◌, [], min, length, IfOk, IsSome, MatchResult, OnErr};
+ghost use Rattle.bl_site.specs.Causes.{Rose};
 
 use crate::moving::read_some;
 use bl_site::{Source, SourceErr};
@@ -29,7 +30,9 @@ impl<R: Read + Drop> HostSource<R> {
     }
 
     /// Why the last read that failed did, if one has.
-    pub fn last_failure(&self) -> Option<io::Error> {
+    pub fn last_failure(&self) -> Option<io::Error>
+        ensures { result ≡ self.now.last }
+    {
         self.last
     }
 }
@@ -43,7 +46,14 @@ impl<R: Read + Drop> Source for HostSource<R> {
 
     ghost faults = { λ s. s.faults };
 
-    fn read(&mut self, into: &mut [u8]) -> Result<usize, SourceErr> {
+    fn read(&mut self, into: &mut [u8]) -> Result<usize, SourceErr>
+        ensures last { MatchResult result (λ _. self.new.last ≡ self.old.last) (λ _. IsSome self.new.last) }
+        ensures bound { IfOk result (λ count. count ≤ length into.new) }
+        ensures taken { IfOk result (λ count. self.new.taken ≡ min (self.old.taken + count) (2 ^ 64 - 1)) }
+        ensures later { self.old.faults ≤ self.new.faults }
+        ensures failed { OnErr result (Rose self.old.faults self.new.faults) }
+        ensures taken_stays { OnErr result (self.new.taken ≡ self.old.taken) }
+    {
         match read_some(&mut self.reader, into) {
             Ok(count) => {
                 self.taken = self.taken.saturating_add(count as u64);
