@@ -1,11 +1,11 @@
 //! Logs whose reading ends before their bytes do.
-ghost use Rattle.std.specs.Prelude.{◌≡◌, ◌≢◌, ℕ, IfOk, OnOk, MatchOption, map, string_bytes};
+ghost use Rattle.std.specs.Prelude.{◌≡◌, ◌≢◌, ℕ, IfOk, IfSome, OnOk, MatchOption, map, string_bytes};
 ghost use Rattle.std.specs.BTreeMap.{IsOrdered};
 ghost use Rattle.std.specs.Ordering.{nat_cmp};
 ghost use Rattle.bl_site.specs.Disk.{folder_of};
 ghost use Rattle.bl_names.specs.Names.{IsNameOf};
 ghost use Rattle.bl_names.specs.declared.name.FileName.TheVariants.{Log};
-ghost use Rattle.bl_main.specs.Ends.{EndsAt, Tells, TellsEach};
+ghost use Rattle.bl_main.specs.Ends.{EndsAt, Tells, TellsEach, word_of};
 ghost use Rattle.bl_main.specs.Logs.{AreLogsOf, TakesLog};
 
 use bl_log::EndCause;
@@ -18,7 +18,8 @@ use std::fmt;
 
 /// Why the reading of a log stopped, in a word or two; `None` where it came to the end of the log.
 fn reason(cause: EndCause) -> Option<&'static str>
-    ensures { MatchOption result (cause ≡ EndCause.Finished) (λ _. cause ≢ EndCause.Finished) }
+    ensures early { MatchOption result (cause ≡ EndCause.Finished) (λ _. cause ≢ EndCause.Finished) }
+    ensures word { IfSome result (λ word. word.now ≡ word_of cause) }
 {
     match cause {
         EndCause::Finished => None,
@@ -40,6 +41,11 @@ pub struct EarlyEnd {
 }
 
 impl fmt::Display for EarlyEnd {
+    ghost use Rattle.std.specs.Prelude.{Some};
+    ghost use Rattle.bl_main.specs.Ends.{text_of};
+
+    ghost output = { λ end. Some (text_of end) };
+
     fn fmt<W: fmt::Write>(&self, f: &mut fmt::Formatter<W>) -> fmt::Result {
         let name = self.name.as_str();
         let place = self.place;
