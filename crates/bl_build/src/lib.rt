@@ -19,7 +19,7 @@ mod version;
 /// A list as edits and plans have it, with the calls that make and read it.
 pub use bl_edit::Items;
 pub use error::{BadVersion, BuildErr};
-pub use laws::versions_reach_exactly;
+pub use laws::{version_is_in_order, versions_reach_exactly};
 pub use meta::{BlobMeta, Standing};
 pub use plan::CompactionPlan;
 pub use snapshot::snapshot_edit;

@@ -31,7 +31,7 @@ use Rattle.bl_out.proofs.StoredLemmas.{IndexIsSpelled}
 use Rattle.bl_folder.proofs.OneLemmas.{blob_of, blobs_are, pair_is}
 use Rattle.bl_folder.proofs.ReachLemmas.{table_of, tables_are}
 use Rattle.bl_out.proofs.WrittenLemmas.{IndexIsRead}
-use Rattle.bl_folder.specs.FlushLaws.{FlushesApply, FlushesKeepFiles, FlushesKeepFronts, FlushesKeepMaps, FlushesAreHeld, FlushesStand, FlushesStandFirst, HasInstalled, HeldAreWhole}
+use Rattle.bl_folder.specs.FlushLaws.{FlushedAreThere, FlushesApply, FlushesKeepFiles, FlushesKeepFronts, FlushesKeepMaps, FlushesAreHeld, FlushesStand, FlushesStandFirst, HasBoth, HasHeld, HeldAreWhole}
 use Rattle.bl_folder.specs.Flushes.{Follow, IsFlushOf, IsMemoryOf, IsWhole, KeepsMaps, blob_metas, flushed_to, installed, installed_edit, linked_file, metas}
 use Rattle.bl_folder.specs.Fronts.{cut_to, last_after}
 use Rattle.bl_folder.specs.Holding.{BlobFile, Holding, Holds, IsSpelled, blob_in}
@@ -172,17 +172,14 @@ each_given : {A B : Type 0} (f : A → Option B) (g : B → A) (ys : List B) →
 each_given f g [] h = refl
 each_given f g (y ∷ ys) h = each_more f (g y) (map g ys) y ys h.0 (each_given f g ys h.1)
 
-module _ (reads : IndexIsRead) (spells : IndexIsSpelled) (version : LiveIsVersion) (counted : LastIsCounted) (old new : Folder) (manifest there : ℕ) (h : Holding) (count from log next : ℕ) (snapshots : List ℕ) (memory : List Entry) (f : Flushed)
-    (holds : Holds old manifest h) (o : IsFlushOf h count from snapshots memory f) (i : HasInstalled old new there h count log next f) where
-  whole : IsWhole h
-  whole = held_are_whole version counted old manifest h holds
-
+module _ (reads : IndexIsRead) (spells : IndexIsSpelled) (old new : Folder) (h : Holding) (count from log next : ℕ) (snapshots : List ℕ) (memory : List Entry) (f : Flushed)
+    (whole : IsWhole h) (has : HasHeld old h) (o : IsFlushOf h count from snapshots memory f) (i : HasBoth old new h f) where
   old_tables : AllByRecursion (λ t. table_in new t.meta ≡ Some t) h.tables
   old_tables =
       let same : AllByRecursion (λ (t : TableFile). file new (Table t.meta.number) ≡ file old (Table t.meta.number)) h.tables =
       all_unmapped (λ (t : TableFile). t.meta) (λ (t : NewTable). file new (Table t.number) ≡ file old (Table t.number)) h.tables (subst (AllByRecursion (λ (t : NewTable). file new (Table t.number) ≡ file old (Table t.number))) (sym whole.tables) i.tables) in
       all_both (λ (t : TableFile). file new (Table t.meta.number) ≡ file old (Table t.meta.number)) (λ t. table_in old t.meta ≡ Some t) (λ t. table_in new t.meta ≡ Some t) h.tables (λ t e is. table_kept old new t.meta e ∙ is) same
-      (each_back (table_in old) (λ t. t.meta) h.live.version.tables h.tables (table_of old) holds.tables)
+      (each_back (table_in old) (λ t. t.meta) h.live.version.tables h.tables (table_of old) has.tables)
 
   same_blobs : AllByRecursion (λ (b : BlobFile). file new (Blob b.meta.number) ≡ file old (Blob b.meta.number)) h.blobs
   same_blobs =
@@ -191,27 +188,31 @@ module _ (reads : IndexIsRead) (spells : IndexIsSpelled) (version : LiveIsVersio
   old_blobs : AllByRecursion (λ b. blob_in new b.meta ≡ Some b) h.blobs
   old_blobs =
       all_both (λ (b : BlobFile). file new (Blob b.meta.number) ≡ file old (Blob b.meta.number)) (λ b. blob_in old b.meta ≡ Some b) (λ b. blob_in new b.meta ≡ Some b) h.blobs (λ b e is. blob_kept old new b.meta e ∙ is) same_blobs
-      (each_back (blob_in old) (λ b. b.meta) h.live.version.blobs h.blobs (blob_of old) holds.blobs)
+      (each_back (blob_in old) (λ b. b.meta) h.live.version.blobs h.blobs (blob_of old) has.blobs)
 
-  pub holds_after : Holds new there (installed h count log next f)
-  holds_after =
+  pub has_after : HasHeld new (installed h count log next f)
+  has_after =
       let files = flushes_keep_files reads spells h count from log next snapshots memory f whole o in
       let ts : List NewTable = with_tables (metas f.tables) h.live.version.tables in
       record {
-        live = i.live;
         tables = ap (each_of (table_in new)) (sym files.tables) ∙ each_given (table_in new) (λ t. t.meta) (installed h count log next f).tables (all_now reads spells h count from log next snapshots memory f whole o (λ t. table_in new t.meta ≡ Some t) old_tables i.files.tables);
         blobs = ap (each_of (blob_in new)) (sym files.blobs)
             ∙ each_given (blob_in new) (λ b. b.meta) (installed h count log next f).blobs
             (all_append (λ b. blob_in new b.meta ≡ Some b) h.blobs (map (linked_file ts) f.blobs) old_blobs
             (all_of_map (linked_file ts) (λ b. blob_in new b.meta ≡ Some b) f.blobs (all_from (HasBlob new) (λ b. blob_in new (linked_file ts b).meta ≡ Some (linked_file ts b)) f.blobs (λ b has. ap (option_and_then (λ rs. Some (record { meta = (linked_file ts b).meta; records = rs }))) has.reads) i.files.blobs)));
         spelled = all_append (IsSpelled new) h.blobs (map (linked_file ts) f.blobs)
-            (all_both (λ (b : BlobFile). file new (Blob b.meta.number) ≡ file old (Blob b.meta.number)) (IsSpelled old) (IsSpelled new) h.blobs (λ b e spelled. subst (λ o. IfSome o (λ bytes. IsBlobFile bytes b.records)) (sym e) spelled) same_blobs holds.spelled)
+            (all_both (λ (b : BlobFile). file new (Blob b.meta.number) ≡ file old (Blob b.meta.number)) (IsSpelled old) (IsSpelled new) h.blobs (λ b e spelled. subst (λ o. IfSome o (λ bytes. IsBlobFile bytes b.records)) (sym e) spelled) same_blobs has.spelled)
             (all_of_map (linked_file ts) (IsSpelled new) f.blobs (all_from (HasBlob new) (λ b. IsSpelled new (linked_file ts b)) f.blobs (λ b has. subst (λ o. IfSome o (λ bytes. IsBlobFile bytes b.records)) (sym has.there) has.spelled) i.files.blobs));
-        batches = i.batches;
       }
 
+pub flushed_are_there : IndexIsRead → IndexIsSpelled → FlushedAreThere
+flushed_are_there reads spells old new h count from log next snapshots memory f whole has o both = has_after reads spells old new h count from log next snapshots memory f whole has o both
+
 pub flushes_are_held : IndexIsRead → IndexIsSpelled → LiveIsVersion → LastIsCounted → FlushesAreHeld
-flushes_are_held reads spells version counted old new manifest there h count from log next snapshots memory f holds o i = holds_after reads spells version counted old new manifest there h count from log next snapshots memory f holds o i
+flushes_are_held reads spells version counted old new manifest there h count from log next snapshots memory f holds o i =
+    let has : HasHeld new (installed h count log next f) = has_after reads spells old new h count from log next snapshots memory f (held_are_whole version counted old manifest h holds)
+    (record { tables = holds.tables; blobs = holds.blobs; spelled = holds.spelled }) o (record { tables = i.tables; blobs = i.blobs; files = i.files }) in
+    record { live = i.live; tables = has.tables; blobs = has.blobs; spelled = has.spelled; batches = i.batches }
 
 pub flushes_stand : IndexIsRead → IndexIsSpelled → KeptTellTheSame → LiveIsVersion → LastIsCounted → FlushesStand
 flushes_stand reads spells tell version counted old new manifest there h found m count from log next snapshots memory f holds sound o i =
@@ -220,7 +221,7 @@ flushes_stand reads spells tell version counted old new manifest there h found m
       manifest = there;
       holding = installed h count log next f;
       found = k.found_now;
-      holds = holds_after reads spells version counted old new manifest there h count from log next snapshots memory f holds o i;
+      holds = flushes_are_held reads spells version counted old new manifest there h count from log next snapshots memory f holds o i;
       sound = k.sound;
     }
 
@@ -232,7 +233,7 @@ flushes_stand_first reads spells tell version counted old new manifest there h f
       manifest = there;
       holding = installed h count log next f;
       found = k.found_now;
-      holds = holds_after reads spells version counted old new manifest there h count from log next snapshots memory f holds o i;
+      holds = flushes_are_held reads spells version counted old new manifest there h count from log next snapshots memory f holds o i;
       within = omega (arith, rest, long);
       sound = k.sound;
     }

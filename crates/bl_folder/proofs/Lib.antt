@@ -1,18 +1,18 @@
 mod ApplyLemmas
-mod Finding
-mod FlushLemmas
+pub mod Finding
+pub mod FlushLemmas
 mod FlushRows
 mod FlushedLemmas
 mod FrameLemmas
 mod FreshLemmas
 mod FrontLemmas
 mod InsertedLemmas
-mod LogLemmas
+pub mod LogLemmas
 mod MemoryLemmas
 mod MoveLemmas
 mod MutatedRows
 mod NoBytes
-mod OneLemmas
+pub mod OneLemmas
 mod QuietLemmas
 mod ReachLemmas
 mod RecordLemmas

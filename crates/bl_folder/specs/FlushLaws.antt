@@ -14,7 +14,9 @@ use Rattle.bl_out.specs.Flushes.{Flushed, HasFlush}
 use Rattle.bl_folder.specs.Files.{log_bytes}
 use Rattle.bl_folder.specs.Logs.{HaveBatches, log_records}
 use Rattle.bl_folder.specs.Live.{IsLive}
-use Rattle.bl_folder.specs.Holding.{Holding, Holds}
+use Rattle.bl_entry.specs.Items.{each_of}
+use Rattle.bl_out.specs.Tables.{table_in}
+use Rattle.bl_folder.specs.Holding.{Holding, Holds, IsSpelled, blob_in}
 use Rattle.bl_folder.specs.Stands.{IsSound, StandsLive}
 use Rattle.bl_folder.specs.Fronts.{StandsFirst, cut_to}
 use Rattle.bl_folder.specs.Flushes.{IsFlushOf, IsWhole, KeepsFiles, KeepsMaps, edit_for, flushed_to, installed}
@@ -44,6 +46,23 @@ abbrev pub FlushesKeepFronts : Type 0
 FlushesKeepFronts = (h : Holding) (found : List Revision) (m : Map) (count from log next more : ℕ) (snapshots : List ℕ) (memory : List Entry) (f : Flushed)
     → IsWhole h → IsSound (cut_to (count + more) h) found m → IsFlushOf h count from snapshots memory f
     → KeepsMaps snapshots (flushed_to count h) found (cut_to more (installed h count log next f)) m
+
+-- The tables and the blob files that are held are in the folder, as it reads.
+pub record HasHeld (folder : Folder) (h : Holding) : Type 0 where
+  pub tables : each_of (table_in folder) h.live.version.tables ≡ Some h.tables
+  pub blobs : each_of (blob_in folder) h.live.version.blobs ≡ Some h.blobs
+  pub spelled : AllByRecursion (IsSpelled folder) h.blobs
+
+-- The new folder has the files of the flush and, as in the old one, those of the old version.
+pub record HasBoth (old new : Folder) (h : Holding) (f : Flushed) : Type 0 where
+  pub tables : AllByRecursion (λ t. file new (Table t.number) ≡ file old (Table t.number)) h.live.version.tables
+  pub blobs : AllByRecursion (λ b. file new (Blob b.number) ≡ file old (Blob b.number)) h.live.version.blobs
+  pub files : HasFlush new f
+
+-- Such a folder has all files of what is installed, before any manifest says so.
+abbrev pub FlushedAreThere : Type 0
+FlushedAreThere = (old new : Folder) (h : Holding) (count from log next : ℕ) (snapshots : List ℕ) (memory : List Entry) (f : Flushed)
+    → IsWhole h → HasHeld old h → IsFlushOf h count from snapshots memory f → HasBoth old new h f → HasHeld new (installed h count log next f)
 
 -- The new folder has the files of the flush and, as in the old one, those of the old version, its live part is the one behind the edit, and its logs from the new log number on have the batches that remain.
 pub record HasInstalled (old new : Folder) (manifest : ℕ) (h : Holding) (count log next : ℕ) (f : Flushed) : Type 0 where

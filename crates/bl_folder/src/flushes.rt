@@ -1,6 +1,6 @@
 //! What holds of flushes: a caller that needs one of these calls it.
 
-ghost use Rattle.bl_folder.specs.FlushLaws.{FlushesApply, FlushesAreHeld, FlushesKeepFiles, FlushesKeepFronts, FlushesKeepMaps, FlushesStand, FlushesStandFirst, HeldAreWhole, LogsAlike, LogsSplit};
+ghost use Rattle.bl_folder.specs.FlushLaws.{FlushedAreThere, FlushesApply, FlushesAreHeld, FlushesKeepFiles, FlushesKeepFronts, FlushesKeepMaps, FlushesStand, FlushesStandFirst, HeldAreWhole, LogsAlike, LogsSplit};
 ghost use Rattle.bl_folder.specs.Installing.{FlushesRestore, OneEditMore};
 ghost use Rattle.bl_folder.specs.Memories.{BatchesAreInBounds, HeldIsMemory};
 ghost use Rattle.bl_folder.specs.Quiet.{OthersKeepNeeded, QuietCutsAreLike, QuietCutsKeepNeeded};
@@ -45,9 +45,11 @@ pub fn edits_are_restored()
     edits_are_read();
 }
 
-/// A folder that has the files of a flush and its edit, and in its logs the batches that remain, holds what is
+/// A folder that has the files of a flush beside those of the version has all files of what is installed. One that
+/// has the edit too, and in its logs the batches that remain, holds what is
 /// installed, so that each snapshot sees in it what it saw; it stands for the same map, and with each front of these batches for the map that it stood for with the flushed ones too.
 pub fn flushed_folders_stand()
+    ensures there { FlushedAreThere }
     ensures held { FlushesAreHeld }
     ensures stand { FlushesStand }
     ensures first { FlushesStandFirst }

@@ -1,5 +1,8 @@
 -- A reading, step by step.
-use Rattle.std.proofs.Common.{◌≡◌, ◌⊎◌, inl, inr, ℕ, List, [], ◌∷◌, ◌++◌, map, Option, Some, None, Ok, refl, sym, ◌∙◌, ap, subst}
+use Rattle.std.proofs.Common.{◌≡◌, ◌⊎◌, inl, inr, ℕ, ◌^◌, ◌<◌, ◌≤◌, Bool, true, false, List, [], ◌∷◌, ◌++◌, map, Option, Some, None, Ok, refl, sym, ◌∙◌, ap, subst}
+use Rattle.std.specs.Prelude.{nat_le}
+use Rattle.std.proofs.lemmas.Bool.{leb-true}
+use Rattle.std.proofs.lemmas.Option.{cond_some}
 use Rattle.bl_site.specs.Disk.{Folder}
 use Rattle.bl_names.specs.Names.{manifest_name}
 use Rattle.bl_log.specs.Log.{records, placed_records}
@@ -7,11 +10,12 @@ use Rattle.bl_log.specs.declared.cause.EndCause.{EndCause}
 use Rattle.bl_records.specs.FileReading.{FileReading, HasFound, FindsNext, EndsBehind}
 use Rattle.bl_edit.specs.Reading.{no_field}
 use Rattle.bl_edit.specs.declared.edit.Edit.{Edit}
+use Rattle.bl_edit.specs.declared.options.Options.{Options}
 use Rattle.bl_build.specs.declared.meta.Standing.{Standing}
 use Rattle.bl_build.specs.Listing.{Listing, nothing}
 use Rattle.bl_build.specs.Versions.{applied, version}
 use Rattle.bl_build.specs.Restoring.{edits_of, last_given, standing_of}
-use Rattle.bl_manifest.specs.Restores.{payloads, version_behind, HasRestored, IsDamaged, Taken}
+use Rattle.bl_manifest.specs.Restores.{payloads, version_behind, HasRestored, IsDamaged, SequenceFits, Taken}
 use Rattle.bl_manifest.specs.declared.error.ManifestErr.{ManifestErr}
 use Rattle.bl_manifest.specs.declared.error.ManifestErr.TheVariants.{OutOfMemory, Corrupt}
 use Rattle.bl_manifest.proofs.EditLemmas.{found_more, applied_then, applied_one, last_given_then}
@@ -119,3 +123,24 @@ corrupt_is r name file at place either is = elim either [
   | inl none ↦ absurd (let wrong : OutOfMemory ≡ Corrupt file place = sym none ∙ is in cc wrong)
   | inr same ↦ (let e : Corrupt name at ≡ Corrupt file place = sym same ∙ is in cc e, let e : Corrupt name at ≡ Corrupt file place = sym same ∙ is in cc e)
 ]
+
+-- what stands beside a version is in its bounds, where the fields that are known are
+abbrev pub AreInBounds : Standing → Type 0
+AreInBounds s = (s.last_sequence < 2 ^ 56) × (s.next_file ≤ 10 ^ 15)
+
+abbrev pub fields : Bool → Option ℕ → Option ℕ → Option ℕ → Option Options → Edit
+fields comparator log next last options = record no_field { comparator = comparator; log_number = log; next_file = next; last_sequence = last; options = options }
+
+fields_fit : (comparator : Bool) (log next last : Option ℕ) (options : Option Options) (s : Standing) → standing_of (fields comparator log next last options) ≡ Some s
+    → SequenceFits (fields comparator log next last options) → AreInBounds s
+fields_fit false log next last options s e fits = absurd (let wrong : None ≡ Some s = e in cc wrong)
+fields_fit true None next last options s e fits = absurd (let wrong : None ≡ Some s = e in cc wrong)
+fields_fit true (Some log) None last options s e fits = absurd (let wrong : None ≡ Some s = e in cc wrong)
+fields_fit true (Some log) (Some next) None options s e fits = absurd (let wrong : None ≡ Some s = e in cc wrong)
+fields_fit true (Some log) (Some next) (Some last) None s e fits = absurd (let wrong : None ≡ Some s = e in cc wrong)
+fields_fit true (Some log) (Some next) (Some last) (Some options) s e fits =
+    let c = cond_some (nat_le next (10 ^ 15)) (record { log_number = log; next_file = next; last_sequence = last; options = options }) s e in
+    subst AreInBounds c.1 (fits, leb-true next (10 ^ 15) c.0)
+
+pub restored_fits : (known : Edit) (s : Standing) → standing_of known ≡ Some s → SequenceFits known → AreInBounds s
+restored_fits known s e fits = fields_fit known.comparator known.log_number known.next_file known.last_sequence known.options s e fits

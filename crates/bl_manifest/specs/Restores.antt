@@ -1,5 +1,5 @@
 -- What reading a manifest gives.
-use Rattle.std.specs.Prelude.{◌≡◌, ◌⊎◌, ℕ, ◌%◌, ◌^◌, List, [], ◌∷◌, ◌++◌, map, Option, None, Some, Ok, option_and_then}
+use Rattle.std.specs.Prelude.{◌≡◌, ◌⊎◌, ℕ, ◌%◌, ◌^◌, ◌<◌, IfSome, List, [], ◌∷◌, ◌++◌, map, Option, None, Some, Ok, option_and_then}
 use Rattle.std.specs.Result.{result_ok}
 use Rattle.bl_site.specs.Disk.{Folder}
 use Rattle.bl_names.specs.Names.{manifest_name}
@@ -66,3 +66,7 @@ abbrev pub Taken : Option Listing → List ℕ → Listing → Edit → Edit →
 Taken (Some after) payload base known known_after =
     (e : Edit) × (read_edit payload ≡ Ok e) × (apply base e ≡ Ok after) × (known_after ≡ last_given known (e ∷ []))
 Taken None payload base known known_after = version_behind base payload ≡ None
+
+-- the last sequence, where it is known, is below 2 ^ 56
+abbrev pub SequenceFits : Edit → Type 0
+SequenceFits known = IfSome known.last_sequence (λ n. n < 2 ^ 56)

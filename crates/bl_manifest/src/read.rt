@@ -1,12 +1,12 @@
 //! Reading a manifest.
 
-ghost use Rattle.std.specs.Prelude.{◌≡◌, ℕ, ◌<◌, ◌≤◌, List, [], ◌∷◌, length, Err, IfOk, IfErr, IsErrOf, IsTrue, false, None, Some, ◌⊎◌};
+ghost use Rattle.std.specs.Prelude.{◌≡◌, ℕ, ◌<◌, ◌≤◌, ◌^◌, List, [], ◌∷◌, length, Err, IfOk, IfErr, IsErrOf, IsTrue, false, None, Some, ◌⊎◌};
 ghost use Rattle.bl_site.specs.Disk.{folder_of};
 ghost use Rattle.bl_site.specs.Causes.{Rose};
 ghost use Rattle.bl_site.specs.Quiet.{OnlyReads};
 ghost use Rattle.bl_names.specs.Names.{IsNumber, manifest_name};
 ghost use Rattle.bl_build.specs.Restoring.{last_given, standing_of as standing_spec};
-ghost use Rattle.bl_manifest.specs.Restores.{HasRestored, IsDamaged, Taken};
+ghost use Rattle.bl_manifest.specs.Restores.{HasRestored, IsDamaged, SequenceFits, Taken};
 
 use crate::error::ManifestErr;
 use bl_build::{BadVersion, Standing, Version, advance};
@@ -65,6 +65,7 @@ fn take_record(
     payload: &[u8],
 ) -> Result<Option<Version>, ManifestErr>
     ensures taken { IfOk result (λ next. Taken next payload.now version known.old known.new) }
+    ensures fits { SequenceFits known.old → SequenceFits known.new }
     ensures memory { IfErr result (λ e. e ≡ ManifestErr.OutOfMemory) }
 {
     let edit = match decode_edit(alloc, payload) {
@@ -92,8 +93,9 @@ fn corrupt(alloc: Global, name: &str, place: u64) -> ManifestErr
 }
 
 /// Reads the manifest of this number, from 1 to 10^15 - 1: the version that its edits lead to from the empty one, and the single
-/// fields as they were given last. A manifest that is cut, or damaged, in a fragment ends there. It holds one version, whose tables
-/// each edit moves on, one record and one piece of the file at a time.
+/// fields as they were given last. The last sequence is below 2^56, and the next file number at most 10^15. A manifest that is cut,
+/// or damaged, in a fragment ends there. It holds one version, whose tables each edit moves on, one record and one piece of the file
+/// at a time.
 ///
 /// Errors: `Corrupt` with the manifest's name: at 0 where it is not in the folder; behind a record that is no edit, or whose edit
 /// does not fit the version; and at the place where reading ends where a field is not known, or the next file number is above
@@ -102,6 +104,8 @@ pub fn read_all<S: Site>(alloc: Global, site: &mut S, number: u64) -> Result<Res
     requires { IsNumber number }
     ensures restored { S.shows → IfOk result (λ r. HasRestored (folder_of (S.disk site.old)) number (record { version = r.version; standing = r.standing })) }
     ensures corrupt { S.shows → (file : List ℕ) (place : ℕ) → result ≡ Err (ManifestErr.Corrupt file place) → (file ≡ manifest_name number) × IsDamaged (folder_of (S.disk site.old)) number place }
+    ensures bounds { IfOk result (λ r. r.standing.last_sequence < 2 ^ 56) }
+    ensures numbers { IfOk result (λ r. r.standing.next_file ≤ 10 ^ 15) }
     ensures named { (file : List ℕ) (place : ℕ) → result ≡ Err (ManifestErr.Corrupt file place) → file ≡ manifest_name number }
     ensures quiet { OnlyReads S.Site site.old site.new }
     ensures disk { IsErrOf result ManifestErr.Disk → Rose (S.disk_faults site.old) (S.disk_faults site.new) }

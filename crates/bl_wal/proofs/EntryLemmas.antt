@@ -7,7 +7,7 @@ use Rattle.bl_entry.specs.Written.{entry, entries_from}
 at_seq : (o : Operation) (a b : ℕ) → a ≡ b → entry o.key a o.put ∷ [] ≡ entry o.key b o.put ∷ []
 at_seq o a b e = ap (λ n. entry o.key n o.put ∷ []) e
 
-one_more : (ops : List Operation) (seq : ℕ) (o : Operation) → entries_from seq (ops ++ o ∷ []) ≡ entries_from seq ops ++ entry o.key (seq + length ops) o.put ∷ []
+pub one_more : (ops : List Operation) (seq : ℕ) (o : Operation) → entries_from seq (ops ++ o ∷ []) ≡ entries_from seq ops ++ entry o.key (seq + length ops) o.put ∷ []
 unfolding entries_from
 one_more [] seq o = let n : seq ≡ seq + 0 = omega arith in at_seq o seq (seq + 0) n
 one_more (x ∷ xs) seq o =

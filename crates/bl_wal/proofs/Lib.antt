@@ -1,4 +1,4 @@
-mod EntryLemmas
+pub mod EntryLemmas
 mod LawLemmas
-mod ProgressLemmas
+pub mod ProgressLemmas
 mod RecordLemmas

@@ -1,12 +1,10 @@
 -- A record, read as a batch behind the last sequence.
-use Rattle.std.proofs.Common.{◌≡◌, ℕ, ◌+◌, List, [], ◌∷◌, ◌++◌, length, Some, None, Ok, Err, refl, sym, ◌∙◌, ap, append-nil}
+use Rattle.std.proofs.Common.{◌≡◌, ℕ, ◌+◌, List, [], ◌∷◌, length, Some, None, Ok, Err, refl}
 use Rattle.std.proofs.lemmas.Bool.{eq-eqb, ne_eqb}
 use Rattle.bl_entry.specs.Batches.{Batch}
 use Rattle.bl_entry.specs.Reading.{read_batch}
 use Rattle.bl_entry.specs.Records.{batches_of}
 use Rattle.bl_entry.specs.declared.decode.BadBatch.{BadBatch}
-use Rattle.bl_entry.specs.declared.key.Entry.{Entry}
-use Rattle.bl_entry.specs.Written.{entries_from, entries_of}
 
 pub none_read : (payload : List ℕ) (last : ℕ) (fault : BadBatch) → read_batch payload ≡ Err fault → batches_of (payload ∷ []) last ≡ None
 unfolding batches_of
@@ -19,6 +17,3 @@ other_first payload last b e other = rw (e, ne_eqb b.first (last + 1) other) ref
 pub next_read : (payload : List ℕ) (last : ℕ) (b : Batch) → read_batch payload ≡ Ok b → b.first ≡ last + 1 → batches_of (payload ∷ []) last ≡ Some (b ∷ [], last + length b.operations)
 unfolding batches_of
 next_read payload last b e same = rw (e, eq-eqb b.first (last + 1) same) refl
-
-pub one_batch : (before after : List Entry) (b : Batch) → after ≡ before ++ entries_from b.first b.operations → after ≡ before ++ entries_of (b ∷ [])
-one_batch before after b e = e ∙ ap (λ l. before ++ l) (sym (append-nil (entries_from b.first b.operations)))

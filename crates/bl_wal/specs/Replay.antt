@@ -1,12 +1,17 @@
 -- What replaying a log gives.
-use Rattle.std.specs.Prelude.{◌≡◌, ℕ, ◌%◌, ◌^◌, List, [], ◌∷◌, ◌++◌, map, Bool, true, false, None, Some, ◌⊎◌}
+use Rattle.std.specs.Prelude.{◌≡◌, ℕ, ◌+◌, ◌%◌, ◌^◌, ◌≤◌, List, [], ◌∷◌, ◌++◌, length, map, Option, None, Some, ◌⊎◌}
 use Rattle.bl_site.specs.Disk.{Folder}
 use Rattle.bl_log.specs.Log.{records, placed_records, ending}
 use Rattle.bl_entry.specs.Batches.{Batch}
 use Rattle.bl_entry.specs.Records.{batches_of}
 use Rattle.bl_entry.specs.declared.key.Entry.{Entry}
 use Rattle.bl_entry.specs.Written.{entries_of}
-use Rattle.bl_wal.specs.declared.replayed.LogEnd.{LogEnd}
+use Rattle.bl_entry.specs.declared.batch.Operation.{Operation}
+use Rattle.bl_records.specs.FileReading.{FileReading, HasFound}
+use Rattle.bl_wal.specs.declared.batches.LogEnd.{LogEnd}
+use Rattle.bl_wal.specs.declared.batches.NextBatch.{NextBatch}
+use Rattle.bl_wal.specs.declared.batches.NextBatch.TheVariants.{Batch as Next, End}
+use Rattle.bl_wal.specs.Held.{Batches}
 use Rattle.bl_wal.specs.LogFile.{log_name}
 
 -- each record of the bytes is a batch that begins behind the last sequence; these are the entries, and the last sequence behind them
@@ -41,15 +46,52 @@ pub record BreaksOff (bytes : List ℕ) (before place : ℕ) : Type 0 where
   pub stops : batches_of (payload ∷ []) last ≡ None
   pub place_is : place ≡ behind % 2 ^ 64
 
--- the log of this number is not there, or breaks off
-abbrev pub IsTorn : Folder → ℕ → ℕ → ℕ → Type 0
-IsTorn folder number before place =
-    ((folder (log_name number) ≡ None) × (place ≡ 0))
-    ⊎ ((bytes : List ℕ) × (folder (log_name number) ≡ Some bytes) × BreaksOff bytes before place)
+-- the file is not there, or breaks off
+abbrev pub BreaksOffAt : Option (List ℕ) → ℕ → ℕ → Type 0
+BreaksOffAt file before place = ((file ≡ None) × (place ≡ 0)) ⊎ ((bytes : List ℕ) × (file ≡ Some bytes) × BreaksOff bytes before place)
 
--- a record is taken as a batch behind the last sequence, or it is none and nothing is taken
-abbrev pub Taken : Bool → List ℕ → List Entry → List Entry → ℕ → ℕ → Type 0
-Taken true payload entries entries_after last last_after =
-    (b : Batch) × (batches_of (payload ∷ []) last ≡ Some (b ∷ [], last_after)) × (entries_after ≡ entries ++ entries_of (b ∷ []))
-Taken false payload entries entries_after last last_after =
-    (batches_of (payload ∷ []) last ≡ None) × (entries_after ≡ entries) × (last_after ≡ last)
+-- so it is with the log of this number
+abbrev pub IsTorn : Folder → ℕ → ℕ → ℕ → Type 0
+IsTorn folder number before place = BreaksOffAt (folder (log_name number)) before place
+
+-- ---- batch by batch
+
+-- the reader of a log's records, and the last sequence
+pub record BatchReading : Type 0 where
+  pub records : FileReading
+  pub last : ℕ
+
+-- The reader has found the records of these batches in the file, the first of which begins behind the sequence `before`.
+pub record HasReplayed (file : Option (List ℕ)) (before : ℕ) (batches : Batches) (reader : BatchReading) : Type 0 where
+  pub found : List (List ℕ × ℕ)
+  pub has : HasFound file found reader.records
+  pub are : batches_of (map (λ r. r.0) found) before ≡ Some (batches, reader.last)
+
+-- the file is there, its records are these batches, and its reading ends here, at a place modulo 2 ^ 64
+pub record EndsBehind (file : Option (List ℕ)) (before : ℕ) (batches : Batches) (last : ℕ) (end : LogEnd) : Type 0 where
+  pub bytes : List ℕ
+  pub there : file ≡ Some bytes
+  pub are : batches_of (records bytes) before ≡ Some (batches, last)
+  pub place_is : end.place ≡ (ending bytes).0 % 2 ^ 64
+  pub cause_is : end.cause ≡ (ending bytes).1
+
+-- behind these batches stands one more, or none
+abbrev pub Answers : NextBatch → Option (List ℕ) → ℕ → Batches → BatchReading → Type 0
+Answers (Next first operations) file before batches reader = HasReplayed file before (batches ++ record { first = first; operations = operations } ∷ []) reader
+Answers (End end) file before batches reader = EndsBehind file before batches reader.last end
+
+-- A batch begins behind the last sequence, its operations take the next ones, and these are in bounds.
+pub record IsNext (first : ℕ) (operations : List Operation) (last last_after : ℕ) : Type 0 where
+  pub first_is : first ≡ last + 1
+  pub last_is : last_after ≡ last + length operations
+  pub bounds : 1 ≤ length operations → first + length operations ≤ 2 ^ 56
+
+abbrev pub Follows : NextBatch → ℕ → ℕ → Type 0
+Follows (Next first operations) last last_after = IsNext first operations last last_after
+Follows (End end) last last_after = last_after ≡ last
+
+-- a record is taken as a batch behind the last sequence, or it is none
+abbrev pub Taken : Option (ℕ × List Operation) → List ℕ → ℕ → ℕ → Type 0
+Taken (Some (first, operations)) payload last last_after =
+    (batches_of (payload ∷ []) last ≡ Some (record { first = first; operations = operations } ∷ [], last_after)) × IsNext first operations last last_after
+Taken None payload last last_after = batches_of (payload ∷ []) last ≡ None

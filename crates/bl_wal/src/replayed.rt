@@ -10,24 +10,13 @@ ghost use Rattle.bl_entry.specs.Written.{entry, entries_from};
 ghost use Rattle.bl_wal.specs.LogFile.{log_name};
 ghost use Rattle.bl_wal.specs.Replay.{HasEntries, EndsAt, IsTorn, Taken};
 
+use crate::batches::{BatchReader, LogEnd, NextBatch};
 use crate::entries::Entries;
 use crate::error::WalErr;
 use bl_code::Octets;
-use bl_entry::{BadBatch, Batch, Entry, InternalKey, Kind, Operation, batches_join, decode_batch};
-use bl_log::{EndCause, placed_records_are_records};
-use bl_names::{FileName, print_name};
-use bl_records::{NextRecord, RecordReader};
+use bl_entry::{Batch, Entry, InternalKey, Kind, Operation};
 use bl_site::Site;
 use std::alloc::Global;
-
-/// Where the reading of a log ended, and why.
-#[derive(Clone, Copy, Debug, Drop, PartialEq, Eq)]
-pub struct LogEnd {
-    /// The place in the file, modulo 2^64.
-    pub place: u64,
-    /// Why. What follows there was not read.
-    pub cause: EndCause,
-}
 
 /// What a log held.
 #[derive(Drop)]
@@ -40,8 +29,8 @@ pub struct Replayed {
     pub ended: LogEnd,
 }
 
-// The entry of one operation, whose key and value are moved.
-fn entry_of(alloc: Global, operation: Operation, seq: u64) -> Entry
+/// The entry of one operation that takes this sequence, below 2^56: its key and value are moved. A deletion's value is empty.
+pub fn entry_of(alloc: Global, operation: Operation, seq: u64) -> Entry
     requires bounds { IsOperation operation }
     requires seq { seq < 2 ^ 56 }
     ensures { result ≡ entry operation.key seq operation.put }
@@ -76,39 +65,6 @@ fn put_entries(
     Ok(())
 }
 
-// A record is taken where it is a batch that begins behind the last sequence.
-fn take_record(
-    alloc: Global,
-    entries: &mut Vec<Entry>,
-    last: &mut u64,
-    payload: &[u8],
-) -> Result<bool, WalErr>
-    ensures taken { IfOk result (λ goes_on. Taken goes_on payload.now entries.old.items entries.new.items last.old last.new) }
-    ensures memory { IfErr result (λ e. e ≡ WalErr.OutOfMemory) }
-{
-    let (first, batch) = match decode_batch(alloc, payload) {
-        Ok(read) => read,
-        Err(BadBatch::At(_, _)) => return Ok(false),
-        Err(BadBatch::OutOfMemory) => return Err(WalErr::OutOfMemory),
-    };
-    if first == 0 || first - 1 != *last {
-        return Ok(false);
-    }
-    let count = u64::from(batch.count());
-    put_entries(alloc, entries, first, batch)?;
-    *last += count;
-    Ok(true)
-}
-
-fn corrupt(alloc: Global, name: &str, place: u64) -> WalErr
-    ensures { (result ≡ WalErr.OutOfMemory) ⊎ (result ≡ WalErr.Corrupt name.now place) }
-{
-    match Octets::from_slice(alloc, name.as_bytes()) {
-        Ok(name) => WalErr::Corrupt(name, place),
-        Err(_) => WalErr::OutOfMemory,
-    }
-}
-
 /// Replays the log of this number, from 1 to 10^15 - 1: the entries of its batches, the first of which has the sequence behind
 /// `last`, up to the place at which its reading ends, with that place and why. A log that is cut, or damaged, in a fragment ends
 /// there.
@@ -129,34 +85,18 @@ pub fn replay<S: Site>(
     ensures quiet { OnlyReads S.Site site.old site.new }
     ensures disk { IsErrOf result WalErr.Disk → Rose (S.disk_faults site.old) (S.disk_faults site.new) }
 {
-    let name = print_name(alloc, &FileName::Log(number))?;
-    let mut records = RecordReader::open(alloc, name)?;
+    let mut batches = BatchReader::open(alloc, number, last)?;
     let mut entries = Vec::new(alloc);
-    let mut last_taken = last;
-    placed_records_are_records();
-    batches_join();
-    'records: for _ in 0..u64::MAX {
-        match records.next(site)? {
-            NextRecord::Record(payload) => {
-                let goes_on = take_record(
-                    alloc,
-                    &mut entries,
-                    &mut last_taken,
-                    payload.as_slice(),
-                )?;
-                if !goes_on {
-                    return Err(corrupt(alloc, records.name(), records.place()));
-                }
-            }
-            NextRecord::End(place, cause) => {
-                let entries = Entries::from_vec(entries);
+    'batches: for _ in 0..u64::MAX {
+        match batches.next(site)? {
+            NextBatch::Batch(first, batch) => put_entries(alloc, &mut entries, first, batch)?,
+            NextBatch::End(ended) => {
                 return Ok(Replayed {
-                    entries,
-                    last: last_taken,
-                    ended: LogEnd { place, cause },
+                    entries: Entries::from_vec(entries),
+                    last: batches.last(),
+                    ended,
                 });
             }
-            NextRecord::Absent => return Err(corrupt(alloc, records.name(), 0)),
         }
     }
     Err(WalErr::OutOfMemory)

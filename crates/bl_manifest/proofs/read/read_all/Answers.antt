@@ -1,9 +1,10 @@
-use Rattle.std.proofs.Common.{◌≡◌, None, Some, inl, sym, ◌∙◌, ap}
+use Rattle.std.proofs.Common.{◌≡◌, None, Some, inl, sym, ◌∙◌, ap, subst}
 use Rattle.bl_site.specs.Disk.{Disk, folder_of}
 use Rattle.bl_names.specs.Names.{manifest_name}
 use Rattle.bl_records.proofs.AnswerLemmas.{record_of, end_of}
 use Rattle.bl_site.proofs.Quiet.{reads_nothing, reads_on}
-use Rattle.bl_manifest.proofs.ProgressLemmas.{begins, record_taken, ended, ended_short, broke_off, taken_of, corrupt_is}
+use Rattle.bl_manifest.specs.Restores.{SequenceFits}
+use Rattle.bl_manifest.proofs.ProgressLemmas.{begins, record_taken, ended, ended_short, broke_off, taken_of, corrupt_is, restored_fits}
 use Rattle.bl_manifest.proofs.read.read_all.Goals as goal
 
 pub records-init : goal.records-init
@@ -12,6 +13,7 @@ records-init g c =
     record {
       name = c.in_ok-records.ensures.name ∙ c.in_ok-name.ensures;
       progress = λ shown. begins (folder_of (site.disk c.args.site.now) (manifest_name c.args.number)) c.in_ok-records.records c.empty-version.result c.new-known.result (c.in_ok-records.ensures.begins _) c.empty-version.ensures c.new-known.ensures;
+      fits = subst SequenceFits (sym c.new-known.ensures) tt;
       quiet = reads_nothing site c.args.site.now;
     }
 
@@ -76,6 +78,12 @@ returns-in-End-clause-restored g c = λ shown.
     ended c.placed_records_are_records.ensures folder c.args.number c.records.records c.records.version c.records.known c.in-Some-standing_of.standing c.in-End.place c.in-End.field-1
     (end_of c.in_ok-payload.field-0 c.in-End.place c.in-End.field-1 (folder_of (site.disk c.records.site) c.records.records.name) (folder (manifest_name c.args.number)) c.records.records c.next.new.self c.in-End.is same (c.in_ok-payload.ensures.answers shown)) (sym c.in-Some-standing_of.ensures) (c.records.invariant.progress shown)
 
+pub returns-in-End-clause-bounds : goal.returns-in-End-clause-bounds
+returns-in-End-clause-bounds g c = (restored_fits c.records.known c.in-Some-standing_of.standing (sym c.in-Some-standing_of.ensures) c.records.invariant.fits).0
+
+pub returns-in-End-clause-numbers : goal.returns-in-End-clause-numbers
+returns-in-End-clause-numbers g c = (restored_fits c.records.known c.in-Some-standing_of.standing (sym c.in-Some-standing_of.ensures) c.records.invariant.fits).1
+
 pub records-preserved : goal.records-preserved
 records-preserved g c =
     let site = g.S.Site in
@@ -88,5 +96,6 @@ records-preserved g c =
           ap (λ (d : Disk). folder_of d c.records.records.name) (c.records.invariant.quiet.stays shown).same ∙ ap folder c.records.invariant.name in
           record_taken (folder (manifest_name c.args.number)) c.records.records c.next.new.self c.in-Record.payload _ _ _ _
           (record_of c.in_ok-payload.field-0 c.in-Record.payload (folder_of (site.disk c.records.site) c.records.records.name) (folder (manifest_name c.args.number)) c.records.records c.next.new.self c.in-Record.is same (c.in_ok-payload.ensures.answers shown)) t (c.records.invariant.progress shown);
+      fits = c.take_record.ensures.fits c.records.invariant.fits;
       quiet = reads_on site c.args.site.now c.records.site c.next.new.site c.records.invariant.quiet c.next.ensures.quiet;
     }

@@ -1,92 +1,81 @@
-use Rattle.std.proofs.Common.{◌≡◌, List, true, false, inl, sym, ◌∙◌, ap, subst}
-use Rattle.bl_site.specs.Disk.{Disk, folder_of}
-use Rattle.bl_entry.specs.declared.key.Entry.{Entry}
-use Rattle.bl_records.proofs.AnswerLemmas.{record_of, end_of}
+use Rattle.std.proofs.Common.{◌≡◌, [], ◌∷◌, ◌++◌, List, ℕ, Option, Err, sym, ◌∙◌, ap, subst}
+use Rattle.std.proofs.lemmas.Result.{err_from_is_err_and}
+use Rattle.bl_site.specs.Disk.{folder_of}
 use Rattle.bl_site.proofs.Quiet.{reads_nothing, reads_on}
 use Rattle.bl_wal.specs.LogFile.{log_name}
-use Rattle.bl_wal.specs.Replay.{HasEntries}
-use Rattle.bl_wal.proofs.ProgressLemmas.{begins, record_taken, ended, ends_at, broke_off, taken_of, corrupt_is}
+use Rattle.bl_wal.proofs.ProgressLemmas.{all_entries, ends_at, ends_behind, entries_join, one_more, same_file}
+use Rattle.bl_wal.specs.Replay.{BreaksOffAt, HasEntries, HasReplayed}
+use Rattle.bl_wal.specs.declared.error.WalErr.TheVariants.{Corrupt}
+use Rattle.bl_entry.specs.declared.key.Entry.{Entry}
 use Rattle.bl_wal.proofs.replayed.replay.Goals as goal
 
-pub records-init : goal.records-init
-records-init g c =
+pub batches-init : goal.batches-init
+batches-init g c =
     let site = g.S.Site in
     record {
-      name = c.in_ok-records.ensures.name ∙ c.in_ok-name.ensures;
-      progress = λ shown. begins c.args.last (folder_of (site.disk c.args.site.now) (log_name c.args.number)) c.in_ok-records.records c.new-entries.result.items (c.in_ok-records.ensures.begins _) c.new-entries.ensures.items;
+      name = c.in_ok-batches.ensures.name;
+      progress = λ shown. record { batches = []; has = c.in_ok-batches.ensures.begins (folder_of (site.disk c.args.site.now) (log_name c.args.number)); entries_are = c.new-entries.ensures.items };
       quiet = reads_nothing site c.args.site.now;
     }
 
-pub returns-in_err-payload-clause-quiet : goal.returns-in_err-payload-clause-quiet
-returns-in_err-payload-clause-quiet g c = reads_on g.S.Site c.args.site.now c.records.site c.next.new.site c.records.invariant.quiet c.next.ensures.quiet
-
-pub returns-in_err-goes_on-in-Record-clause-quiet : goal.returns-in_err-goes_on-in-Record-clause-quiet
-returns-in_err-goes_on-in-Record-clause-quiet g c = reads_on g.S.Site c.args.site.now c.records.site c.next.new.site c.records.invariant.quiet c.next.ensures.quiet
-
-pub returns-then-not-goes_on-clause-quiet : goal.returns-then-not-goes_on-clause-quiet
-returns-then-not-goes_on-clause-quiet g c = reads_on g.S.Site c.args.site.now c.records.site c.next.new.site c.records.invariant.quiet c.next.ensures.quiet
-
-pub returns-in-End-clause-quiet : goal.returns-in-End-clause-quiet
-returns-in-End-clause-quiet g c = reads_on g.S.Site c.args.site.now c.records.site c.next.new.site c.records.invariant.quiet c.next.ensures.quiet
-
-pub returns-in-Absent-clause-quiet : goal.returns-in-Absent-clause-quiet
-returns-in-Absent-clause-quiet g c = reads_on g.S.Site c.args.site.now c.records.site c.next.new.site c.records.invariant.quiet c.next.ensures.quiet
-
-pub returns-then-not-goes_on-clause-corrupt : goal.returns-then-not-goes_on-clause-corrupt
-returns-then-not-goes_on-clause-corrupt g c = λ shown file place e.
+pub returns-in_err-first-clause-corrupt : goal.returns-in_err-first-clause-corrupt
+returns-in_err-first-clause-corrupt g c = λ shown name place is.
     let site = g.S.Site in
-    let folder = folder_of (site.disk c.args.site.now) in
-    let same : folder_of (site.disk c.records.site) c.records.records.name ≡ folder (log_name c.args.number) =
-    ap (λ (d : Disk). folder_of d c.records.records.name) (c.records.invariant.quiet.stays shown).same ∙ ap folder c.records.invariant.name in
-    let is = corrupt_is c.corrupt.result c.name.result.now file c.place.result place c.corrupt.ensures (cc e) in
-    let t = taken_of c.in_ok-goes_on-in-Record.goes_on false c.in-Record.payload c.as_slice.result.now _ _ _ _ c.if-not-goes_on.true c.as_slice.ensures c.in_ok-goes_on-in-Record.ensures.taken in (
-      is.0 ∙ c.name.ensures ∙ c.next.ensures.name ∙ c.records.invariant.name,
-      broke_off folder c.args.number c.args.last c.records.records c.next.new.self c.in-Record.payload c.records.entries.items c.records.last_taken place
-          (record_of c.in_ok-payload.field-0 c.in-Record.payload (folder_of (site.disk c.records.site) c.records.records.name) (folder (log_name c.args.number)) c.records.records c.next.new.self c.in-Record.is same (c.in_ok-payload.ensures.answers shown)) t.0 (is.1 ∙ c.place.ensures) (c.records.invariant.progress shown),
+    let p = err_from_is_err_and c.from_residual-in_err-first.result c.from_residual-in_err-first.ensures.1 in
+    let e : c.in_err-first.field-0.0 ≡ Corrupt name place = cc (is, p.1, p.2) in
+    let i = c.batches.invariant in
+    let same = same_file (folder_of (site.disk c.batches.site)) (folder_of (site.disk c.args.site.now)) c.batches.batches.records.name (log_name c.args.number) (ap folder_of (i.quiet.stays shown).same) i.name in
+    let so_far = i.progress shown in (
+      c.in_err-first.ensures.named name place (ap Err e) ∙ i.name,
+      subst (λ (f : Option (List ℕ)). BreaksOffAt f c.args.last place) same
+          (c.in_err-first.ensures.corrupt shown name place (ap Err e) c.args.last so_far.batches (subst (λ (f : Option (List ℕ)). HasReplayed f c.args.last so_far.batches c.batches.batches) (sym same) so_far.has)),
     )
 
-pub returns-in-Absent-clause-corrupt : goal.returns-in-Absent-clause-corrupt
-returns-in-Absent-clause-corrupt g c = λ shown file place e.
-    let site = g.S.Site in
-    let folder = folder_of (site.disk c.args.site.now) in
-    let same : folder_of (site.disk c.records.site) c.records.records.name ≡ folder (log_name c.args.number) =
-    ap (λ (d : Disk). folder_of d c.records.records.name) (c.records.invariant.quiet.stays shown).same ∙ ap folder c.records.invariant.name in
-    let is = corrupt_is c.corrupt-in-Absent.result c.name-in-Absent.result.now file 0 place c.corrupt-in-Absent.ensures (cc e) in
-    (is.0 ∙ c.name-in-Absent.ensures ∙ c.next.ensures.name ∙ c.records.invariant.name, inl (sym same ∙ c.in_ok-payload.ensures.absent shown c.in-Absent.is, is.1))
+pub returns-in_err-first-clause-quiet : goal.returns-in_err-first-clause-quiet
+returns-in_err-first-clause-quiet g c = reads_on g.S.Site c.args.site.now c.batches.site c.next.new.site c.batches.invariant.quiet c.next.ensures.quiet
+
+pub returns-in_err-put_entries-in-Batch-clause-quiet : goal.returns-in_err-put_entries-in-Batch-clause-quiet
+returns-in_err-put_entries-in-Batch-clause-quiet g c = reads_on g.S.Site c.args.site.now c.batches.site c.next.new.site c.batches.invariant.quiet c.next.ensures.quiet
+
+pub returns-in-End-clause-quiet : goal.returns-in-End-clause-quiet
+returns-in-End-clause-quiet g c = reads_on g.S.Site c.args.site.now c.batches.site c.next.new.site c.batches.invariant.quiet c.next.ensures.quiet
 
 pub returns-in-End-clause-replayed : goal.returns-in-End-clause-replayed
 returns-in-End-clause-replayed g c = λ shown.
     let site = g.S.Site in
     let folder = folder_of (site.disk c.args.site.now) in
-    let same : folder_of (site.disk c.records.site) c.records.records.name ≡ folder (log_name c.args.number) =
-    ap (λ (d : Disk). folder_of d c.records.records.name) (c.records.invariant.quiet.stays shown).same ∙ ap folder c.records.invariant.name in
-    let P : List Entry → Type 0 = λ es. HasEntries folder c.args.number c.args.last es c.records.last_taken in
-    subst P (sym c.from_vec-entries.ensures)
-    (ended c.placed_records_are_records.ensures folder c.args.number c.args.last c.records.records c.records.entries.items c.records.last_taken c.in-End.place c.in-End.cause
-    (end_of c.in_ok-payload.field-0 c.in-End.place c.in-End.cause (folder_of (site.disk c.records.site) c.records.records.name) (folder (log_name c.args.number)) c.records.records c.next.new.self c.in-End.is same (c.in_ok-payload.ensures.answers shown))
-    (c.records.invariant.progress shown))
+    let i = c.batches.invariant in
+    let same = same_file (folder_of (site.disk c.batches.site)) folder c.batches.batches.records.name (log_name c.args.number) (ap folder_of (i.quiet.stays shown).same) i.name in
+    let so_far = i.progress shown in
+    let end = ends_behind c.in_ok-first.field-0 c.in-End.ended _ _ c.args.last so_far.batches c.batches.batches c.next.new.self c.in-End.is same (c.in_ok-first.ensures.answers shown) so_far.has in
+    let P : List Entry → Type 0 = λ es. HasEntries folder c.args.number c.args.last es c.last.result in
+    let Q : ℕ → Type 0 = λ n. HasEntries folder c.args.number c.args.last c.batches.entries.items n in
+    subst P (sym c.from_vec.ensures) (subst Q (sym c.last.ensures) (all_entries folder c.args.number c.args.last so_far.batches c.next.new.self.last c.in-End.ended c.batches.entries.items end so_far.entries_are))
 
 pub returns-in-End-clause-ended : goal.returns-in-End-clause-ended
 returns-in-End-clause-ended g c = λ shown.
     let site = g.S.Site in
     let folder = folder_of (site.disk c.args.site.now) in
-    let same : folder_of (site.disk c.records.site) c.records.records.name ≡ folder (log_name c.args.number) =
-    ap (λ (d : Disk). folder_of d c.records.records.name) (c.records.invariant.quiet.stays shown).same ∙ ap folder c.records.invariant.name in
-    ends_at folder c.args.number c.args.last c.records.records c.records.entries.items c.records.last_taken c.in-End.place c.in-End.cause
-    (end_of c.in_ok-payload.field-0 c.in-End.place c.in-End.cause (folder_of (site.disk c.records.site) c.records.records.name) (folder (log_name c.args.number)) c.records.records c.next.new.self c.in-End.is same (c.in_ok-payload.ensures.answers shown))
-    (c.records.invariant.progress shown)
+    let i = c.batches.invariant in
+    let same = same_file (folder_of (site.disk c.batches.site)) folder c.batches.batches.records.name (log_name c.args.number) (ap folder_of (i.quiet.stays shown).same) i.name in
+    let so_far = i.progress shown in
+    ends_at folder c.args.number c.args.last so_far.batches c.next.new.self.last c.in-End.ended
+    (ends_behind c.in_ok-first.field-0 c.in-End.ended _ _ c.args.last so_far.batches c.batches.batches c.next.new.self c.in-End.is same (c.in_ok-first.ensures.answers shown) so_far.has)
 
-pub records-preserved : goal.records-preserved
-records-preserved g c =
+pub batches-preserved : goal.batches-preserved
+batches-preserved g c =
     let site = g.S.Site in
     let folder = folder_of (site.disk c.args.site.now) in
-    let t = taken_of c.in_ok-goes_on-in-Record.goes_on true c.in-Record.payload c.as_slice.result.now _ _ _ _ c.if-not-goes_on.false c.as_slice.ensures c.in_ok-goes_on-in-Record.ensures.taken in
+    let i = c.batches.invariant in
     record {
-      name = c.next.ensures.name ∙ c.records.invariant.name;
+      name = c.next.ensures.name ∙ i.name;
       progress = λ shown.
-          let same : folder_of (site.disk c.records.site) c.records.records.name ≡ folder (log_name c.args.number) =
-          ap (λ (d : Disk). folder_of d c.records.records.name) (c.records.invariant.quiet.stays shown).same ∙ ap folder c.records.invariant.name in
-          record_taken c.args.last (folder (log_name c.args.number)) c.batches_join.ensures.join c.records.records c.next.new.self c.in-Record.payload _ _ _ _
-          (record_of c.in_ok-payload.field-0 c.in-Record.payload (folder_of (site.disk c.records.site) c.records.records.name) (folder (log_name c.args.number)) c.records.records c.next.new.self c.in-Record.is same (c.in_ok-payload.ensures.answers shown)) t (c.records.invariant.progress shown);
-      quiet = reads_on site c.args.site.now c.records.site c.next.new.site c.records.invariant.quiet c.next.ensures.quiet;
+          let same = same_file (folder_of (site.disk c.batches.site)) folder c.batches.batches.records.name (log_name c.args.number) (ap folder_of (i.quiet.stays shown).same) i.name in
+          let so_far = i.progress shown in
+          record {
+            batches = so_far.batches ++ record { first = c.in-Batch.first; operations = c.in-Batch.batch } ∷ [];
+            has = one_more c.in_ok-first.field-0 c.in-Batch.first c.in-Batch.batch _ _ c.args.last so_far.batches c.batches.batches c.next.new.self c.in-Batch.is same (c.in_ok-first.ensures.answers shown) so_far.has;
+            entries_are = entries_join so_far.batches (record { first = c.in-Batch.first; operations = c.in-Batch.batch }) c.batches.entries.items c.put_entries.new.entries.items so_far.entries_are c.in_ok-put_entries-in-Batch.ensures.put;
+          };
+      quiet = reads_on site c.args.site.now c.batches.site c.next.new.site i.quiet c.next.ensures.quiet;
     }
