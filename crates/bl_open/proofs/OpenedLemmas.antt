@@ -1,0 +1,101 @@
+-- An opening as a whole.
+use Rattle.std.proofs.Common.{◌≡◌, ◌<◌, inl, inr, ℕ, zero, suc, List, [], ◌∷◌, length, get_or, Option, None, Some, IsSome, Result, Ok, Err, refl, ◌∙◌, subst, arith}
+use Rattle.std.specs.Prelude.{IfErr, IfOk}
+use Rattle.std.specs.FinMap.{empty}
+use Rattle.std.specs.Option.{option_map}
+use Rattle.bl_site.specs.Disk.{Disk, File, Folder, Name, folder_of}
+use Rattle.bl_site.specs.declared.site.Site.{Ghosts}
+use Rattle.bl_entry.specs.Revisions.{Map}
+use Rattle.bl_build.specs.Listing.{nothing}
+use Rattle.bl_folder.specs.Live.{IsFresh}
+use Rattle.bl_folder.specs.Stands.{Stands}
+use Rattle.bl_records.specs.Causes.{IsCause}
+use Rattle.bl_open.proofs.MomentLemmas.{CountsNow, OnlyNow}
+use Rattle.bl_open.proofs.ReadLemmas.{nothing_side, nothing_then_side}
+use Rattle.bl_wal.specs.LogFile.{log_name}
+use Rattle.bl_open.specs.Barrier.{AreTheLogs, MakesNothing}
+use Rattle.bl_open.specs.Causes.{IsWriting}
+use Rattle.bl_open.specs.Checks.{AllPass}
+use Rattle.bl_open.specs.Listing.{AreLogs}
+use Rattle.bl_open.specs.Options.{Words}
+use Rattle.bl_open.specs.Recovering.{AnswersAsRefused, CutsAtBarrier, IsTelling}
+use Rattle.bl_open.specs.declared.error.OpenErr.{OpenErr}
+use Rattle.bl_open.specs.declared.error.OpenErr.TheVariants.{Disk as DiskFailed, Full, OutOfMemory}
+
+pub each_ok : {T : Type 0} (r : Result T OpenErr) (P Q : T → Type 0) → ((x : T) → P x → Q x) → IfOk r P → IfOk r Q
+each_ok (Ok x) P Q f p = f x p
+each_ok (Err e) P Q f p = tt
+
+module _ {D : Type 0} (g : Ghosts D) (shown : g.shows) (only_now : (site : D) → OnlyNow g site) (counts_now : (site : D) → CountsNow g site)
+    (only : (site : D) (other : Disk) → g.certain site → g.may_be site other → other ≡ g.disk site) where
+  -- no name call was made
+  pub nothing_cuts : (m : Map) (old new : D) → MakesNothing g old new → CutsAtBarrier g m old new
+  nothing_cuts m old new n = record { first = []; sides = nothing_side g shown only_now counts_now only [] m old new n }
+
+  pub then_cuts : (m : Map) (old mid new : D) → MakesNothing g old mid → CutsAtBarrier g m mid new → CutsAtBarrier g m old new
+  then_cuts m old mid new n c = record { first = c.first; sides = nothing_then_side g shown only_now counts_now only c.first m old mid new n c.sides }
+
+-- a version of no file passes
+pub nothing_passes : (folder : Folder) → AllPass folder nothing
+nothing_passes folder k d lt = absurd (omega (arith, lt))
+
+-- a fresh folder stands for the empty map alone
+pub fresh_is_empty : (folder : Folder) (m : Map) → IsFresh folder → Stands folder m → m ≡ empty
+fresh_is_empty folder m fresh (inl stands) = stands.1
+fresh_is_empty folder m fresh (inr live) = let a = fresh.current in let b = live.holds.live.current in absurd (cc (a, b))
+
+-- what fails by the folder, or for want of memory, tells nothing
+pub cause_silent : (e : OpenErr) → IsCause DiskFailed OutOfMemory e → IsTelling e → ⊥
+cause_silent e (inl is) tells = subst IsTelling is tells
+cause_silent e (inr is) tells = subst IsTelling is tells
+
+pub cause_not_full : (e : OpenErr) (n : ℕ) → IsCause DiskFailed OutOfMemory e → e ≡ Full n → ⊥
+cause_not_full e n (inl is) full = cc (is, full)
+cause_not_full e n (inr is) full = cc (is, full)
+
+pub writing_silent : (e : OpenErr) → IsWriting e → IsTelling e → ⊥
+writing_silent e (inl is) tells = subst IsTelling is tells
+writing_silent e (inr (inl is)) tells = subst IsTelling is tells
+writing_silent e (inr (inr is)) tells = subst IsTelling is tells
+
+-- an answer that is none of an error
+pub no_telling : {T : Type 0} (r : Result T OpenErr) → IfErr r IsWriting → (e : OpenErr) → r ≡ Err e → IsTelling e → ⊥
+no_telling r causes e is tells = writing_silent e (subst (λ x. IfErr x IsWriting) is causes) tells
+
+pub silent_same : {T : Type 0} (P : Type 0) (r : Result T OpenErr) → IfErr r IsWriting → IfErr r (λ e. IsTelling e → P)
+silent_same P (Ok x) causes = tt
+silent_same P (Err e) causes = λ tells. absurd (writing_silent e causes tells)
+
+-- of the folder as it was
+pub answers_before : {T : Type 0} (folder old : Folder) (words : Words) (r : Result T OpenErr) → folder ≡ old → AnswersAsRefused folder words r → AnswersAsRefused old words r
+answers_before folder old words r same a = subst (λ (f : Folder). AnswersAsRefused f words r) same a
+
+-- ---- files of a folder, and of its disk
+
+some_read : (o : Option File) → IsSome (option_map (λ (x : File). x.read) o) → IsSome o
+some_read None some = some
+some_read (Some x) some = refl
+
+pub some_in : (disk : Disk) (name : Name) → IsSome (folder_of disk name) → IsSome (disk name)
+some_in disk name some = some_read (disk name) some
+
+some_reads : (o : Option File) → IsSome o → IsSome (option_map (λ (x : File). x.read) o)
+some_reads None some = some
+some_reads (Some x) some = refl
+
+same_default : (xs : List ℕ) (k a b : ℕ) → k < length xs → get_or xs k a ≡ get_or xs k b
+same_default [] k a b lt = absurd (omega (arith, lt))
+same_default (x ∷ xs) zero a b lt = refl
+same_default (x ∷ xs) (suc k) a b lt = same_default xs k a b (omega (arith, lt))
+
+pub the_logs : (disk : Disk) (numbers : List ℕ) → AreLogs (folder_of disk) numbers → AreTheLogs numbers disk
+the_logs disk numbers logs = record {
+  each = λ k lt. some_in disk (log_name (get_or numbers k 0)) (logs.each k 0 lt).1;
+  all = λ n is some.
+      let c = logs.all n is (some_reads (disk (log_name n)) some) in
+      (c.0, c.1, same_default numbers c.0 0 n c.1 ∙ c.2);
+}
+
+pub none_if : {A : Type 0} (o : Option A) → (IsSome o → ⊥) → o ≡ None
+none_if None h = refl
+none_if (Some x) h = absurd (h refl)

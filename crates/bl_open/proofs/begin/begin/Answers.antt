@@ -1,0 +1,278 @@
+use Rattle.std.proofs.Common.{◌≡◌, ◌+◌, ◌∙◌, ◌≤◌, ℕ, ap, sym, subst, arith, refl}
+use Rattle.std.specs.Prelude.{◌^◌}
+use Rattle.bl_open.proofs.LoadedLemmas.{after, flush_cuts, flush_sides, live_after, manifest_spare, no_cuts, no_settled, no_sides, rests_now, settled_now, store_cuts, store_sides, tables_after}
+use Rattle.bl_open.specs.Beginning.{first_file}
+use Rattle.bl_site.specs.Calls.{LeavesOnly}
+use Rattle.bl_names.specs.declared.name.FileName.TheVariants.{Manifest}
+use Rattle.bl_wal.specs.LogFile.{log_name}
+use Rattle.bl_open.specs.Barrier.{IsOnEitherSide}
+use Rattle.bl_open.specs.Found.{IsSpareFor}
+use Rattle.bl_open.specs.Steady.{Maps}
+use Rattle.bl_open.proofs.begin.begin.Goals as goal
+
+pub returns-in_err-manifest-clause-sides : goal.returns-in_err-manifest-clause-sides
+returns-in_err-manifest-clause-sides g c = λ shown found h m s.
+    no_sides g.S.Site found h m c.args.loaded c.args.site.now s (g.met.S.Site.only_now shown c.args.site.now) (first_file c.args.loaded.memory c.args.loaded.first)
+
+pub returns-in_err-manifest-clause-cuts : goal.returns-in_err-manifest-clause-cuts
+returns-in_err-manifest-clause-cuts g c = λ shown sure found h m s.
+    no_cuts g.S.Site found h m c.args.loaded c.args.site.now s (g.met.S.Site.only_now shown c.args.site.now) c.barriers_let_disks_rest.ensures.cuts (λ other. g.met.S.Site.only shown c.args.site.now other sure)
+
+pub returns-in_err-manifest-clause-settled : goal.returns-in_err-manifest-clause-settled
+returns-in_err-manifest-clause-settled g c = λ shown found h m s.
+    no_settled g.S.Site found h m c.args.loaded c.args.site.now s (g.met.S.Site.only_now shown c.args.site.now) c.barriers_let_disks_rest.ensures.rests c.barriers_let_disks_rest.ensures.stay_settled
+
+pub returns-in_err-log-clause-sides : goal.returns-in_err-log-clause-sides
+returns-in_err-log-clause-sides g c = λ shown found h m s.
+    no_sides g.S.Site found h m c.args.loaded c.args.site.now s (g.met.S.Site.only_now shown c.args.site.now) (first_file c.args.loaded.memory c.args.loaded.first)
+
+pub returns-in_err-log-clause-cuts : goal.returns-in_err-log-clause-cuts
+returns-in_err-log-clause-cuts g c = λ shown sure found h m s.
+    no_cuts g.S.Site found h m c.args.loaded c.args.site.now s (g.met.S.Site.only_now shown c.args.site.now) c.barriers_let_disks_rest.ensures.cuts (λ other. g.met.S.Site.only shown c.args.site.now other sure)
+
+pub returns-in_err-log-clause-settled : goal.returns-in_err-log-clause-settled
+returns-in_err-log-clause-settled g c = λ shown found h m s.
+    no_settled g.S.Site found h m c.args.loaded c.args.site.now s (g.met.S.Site.only_now shown c.args.site.now) c.barriers_let_disks_rest.ensures.rests c.barriers_let_disks_rest.ensures.stay_settled
+
+pub returns-in_err-edit-clause-sides : goal.returns-in_err-edit-clause-sides
+returns-in_err-edit-clause-sides g c = λ shown found h m s.
+    let old = c.args.site.now in
+    let at : c.draw-2.new.self ≡ c.args.loaded.first + 2 = omega (arith, c.in_ok-log.ensures.drawn.2, c.in_ok-manifest.ensures.drawn.2, c.from-numbers.ensures) in
+    flush_sides g.S.Site found h m c.args.loaded old s (g.met.S.Site.only_now shown old) c.drawn_files_let_disks_rest.ensures.rest c.barriers_let_disks_rest.ensures.cuts
+    c.flush_found.new.site c.draw-2.new.self at (c.flush_found.ensures.others shown) c.flush_found.ensures.idle (c.flush_found.ensures.sides shown)
+
+pub returns-in_err-edit-clause-cuts : goal.returns-in_err-edit-clause-cuts
+returns-in_err-edit-clause-cuts g c = λ shown sure found h m s.
+    let old = c.args.site.now in
+    let at : c.draw-2.new.self ≡ c.args.loaded.first + 2 = omega (arith, c.in_ok-log.ensures.drawn.2, c.in_ok-manifest.ensures.drawn.2, c.from-numbers.ensures) in
+    flush_cuts g.S.Site found h m c.args.loaded old s (g.met.S.Site.only_now shown old) c.drawn_files_let_disks_rest.ensures.rest c.barriers_let_disks_rest.ensures.cuts
+    c.flush_found.new.site c.draw-2.new.self at (c.flush_found.ensures.others shown) c.flush_found.ensures.idle (c.flush_found.ensures.cuts shown sure) (λ other. g.met.S.Site.only shown old other sure)
+
+pub returns-in_err-edit-clause-settled : goal.returns-in_err-edit-clause-settled
+returns-in_err-edit-clause-settled g c = λ shown found h m s.
+    let old = c.args.site.now in
+    let at : c.draw-2.new.self ≡ c.args.loaded.first + 2 = omega (arith, c.in_ok-log.ensures.drawn.2, c.in_ok-manifest.ensures.drawn.2, c.from-numbers.ensures) in
+    settled_now g.S.Site found h m c.args.loaded old s (g.met.S.Site.only_now shown old) c.drawn_files_let_disks_rest.ensures.rest c.barriers_let_disks_rest.ensures.cuts
+    c.flush_found.new.site c.draw-2.new.self at (c.flush_found.ensures.others shown) c.flush_found.ensures.idle c.barriers_let_disks_rest.ensures.rests c.barriers_let_disks_rest.ensures.stay_settled
+
+pub returns-in_err-version-clause-sides : goal.returns-in_err-version-clause-sides
+returns-in_err-version-clause-sides g c = λ shown found h m s.
+    let old = c.args.site.now in
+    let at : c.draw-2.new.self ≡ c.args.loaded.first + 2 = omega (arith, c.in_ok-log.ensures.drawn.2, c.in_ok-manifest.ensures.drawn.2, c.from-numbers.ensures) in
+    flush_sides g.S.Site found h m c.args.loaded old s (g.met.S.Site.only_now shown old) c.drawn_files_let_disks_rest.ensures.rest c.barriers_let_disks_rest.ensures.cuts
+    c.flush_found.new.site c.draw-2.new.self at (c.flush_found.ensures.others shown) c.flush_found.ensures.idle (c.flush_found.ensures.sides shown)
+
+pub returns-in_err-version-clause-cuts : goal.returns-in_err-version-clause-cuts
+returns-in_err-version-clause-cuts g c = λ shown sure found h m s.
+    let old = c.args.site.now in
+    let at : c.draw-2.new.self ≡ c.args.loaded.first + 2 = omega (arith, c.in_ok-log.ensures.drawn.2, c.in_ok-manifest.ensures.drawn.2, c.from-numbers.ensures) in
+    flush_cuts g.S.Site found h m c.args.loaded old s (g.met.S.Site.only_now shown old) c.drawn_files_let_disks_rest.ensures.rest c.barriers_let_disks_rest.ensures.cuts
+    c.flush_found.new.site c.draw-2.new.self at (c.flush_found.ensures.others shown) c.flush_found.ensures.idle (c.flush_found.ensures.cuts shown sure) (λ other. g.met.S.Site.only shown old other sure)
+
+pub returns-in_err-version-clause-settled : goal.returns-in_err-version-clause-settled
+returns-in_err-version-clause-settled g c = λ shown found h m s.
+    let old = c.args.site.now in
+    let at : c.draw-2.new.self ≡ c.args.loaded.first + 2 = omega (arith, c.in_ok-log.ensures.drawn.2, c.in_ok-manifest.ensures.drawn.2, c.from-numbers.ensures) in
+    settled_now g.S.Site found h m c.args.loaded old s (g.met.S.Site.only_now shown old) c.drawn_files_let_disks_rest.ensures.rest c.barriers_let_disks_rest.ensures.cuts
+    c.flush_found.new.site c.draw-2.new.self at (c.flush_found.ensures.others shown) c.flush_found.ensures.idle c.barriers_let_disks_rest.ensures.rests c.barriers_let_disks_rest.ensures.stay_settled
+
+pub returns-in_err-manifest-2-clause-sides : goal.returns-in_err-manifest-2-clause-sides
+returns-in_err-manifest-2-clause-sides g c = λ shown found h m s.
+    let site = g.S.Site in
+    let laws = c.barriers_let_disks_rest.ensures in
+    let flush = c.flushed_tables_make_the_map.ensures in
+    let l = c.args.loaded in
+    let old = c.args.site.now in
+    let mid = c.flush_found.new.site in
+    let at : c.draw-2.new.self ≡ l.first + 2 = omega (arith, c.in_ok-log.ensures.drawn.2, c.in_ok-manifest.ensures.drawn.2, c.from-numbers.ensures) in
+    let at_log : c.in_ok-log.log ≡ l.first + 1 = c.in_ok-log.ensures.drawn.0 ∙ c.in_ok-manifest.ensures.drawn.2 ∙ ap (λ (n : ℕ). n + 1) c.from-numbers.ensures in
+    let at_manifest : c.in_ok-manifest.manifest ≡ l.first = c.in_ok-manifest.ensures.drawn.0 ∙ c.from-numbers.ensures in
+    let most : c.flush_found.new.numbers ≤ 10 ^ 15 = omega (arith, c.next.ensures.value, c.next.ensures.bound) in
+    let flushes = c.in_ok-edit.ensures.flushes shown in
+    let keeps = c.flush_found.ensures.others shown in
+    let next = c.in_ok-version.ensures.next in
+    let e = c.in_ok-edit.edit in
+    let v = c.in_ok-version.version in
+    let h_after = after flush.tables flush.applies found h m l (site.disk old) (site.disk mid) e c.draw-2.new.self c.flush_found.new.numbers v s at c.requires.some most flushes keeps next.0 next.1 in
+    let live = live_after flush.tables flush.applies found h m l (site.disk old) (site.disk mid) e c.draw-2.new.self c.flush_found.new.numbers v s at c.requires.some most flushes keeps next.0 next.1
+    c.in_ok-log.log c.next.result at_log c.next.ensures.value in
+    let tables = λ (maps : Maps) (first : maps 0 ≡ m). tables_after flush.tables flush.applies found h m l (site.disk old) (site.disk mid) e c.draw-2.new.self c.flush_found.new.numbers v s at c.requires.some most flushes keeps next.0 next.1
+    maps c.in_ok-log.log first at_log in
+    let rests = rests_now site found h m l old s (g.met.S.Site.only_now shown old) c.drawn_files_let_disks_rest.ensures.rest laws.cuts mid c.draw-2.new.self at keeps c.flush_found.ensures.idle in
+    let spare : IsSpareFor found (Manifest c.in_ok-manifest.manifest) = subst (λ (n : ℕ). IsSpareFor found (Manifest n)) (sym at_manifest) (manifest_spare laws.numbers l.first found s.below) in
+    let start : LeavesOnly site.clock site.left_since mid c.start_store.new.site (IsOnEitherSide (log_name (l.first + 1)) (site.may_be mid) m (site.told mid)) =
+    subst (λ (n : ℕ). LeavesOnly site.clock site.left_since mid c.start_store.new.site (IsOnEitherSide (log_name n) (site.may_be mid) m (site.told mid))) at_log
+    (c.start_store.ensures.sides shown found (λ n. m) h_after rests spare (tables (λ n. m) refl) live) in
+    store_sides site found h m l old s (g.met.S.Site.only_now shown old) c.drawn_files_let_disks_rest.ensures.rest laws.cuts mid c.draw-2.new.self at keeps c.flush_found.ensures.idle
+    c.start_store.new.site (c.flush_found.ensures.tells_nothing.told shown) (c.in_ok-edit.ensures.passed shown) (c.flush_found.ensures.sides shown) start
+    (λ sure. c.start_store.ensures.cuts shown sure found (λ n. m) h_after rests spare (tables (λ n. m) refl) live)
+
+pub returns-in_err-manifest-2-clause-cuts : goal.returns-in_err-manifest-2-clause-cuts
+returns-in_err-manifest-2-clause-cuts g c = λ shown sure found h m s.
+    let site = g.S.Site in
+    let laws = c.barriers_let_disks_rest.ensures in
+    let flush = c.flushed_tables_make_the_map.ensures in
+    let l = c.args.loaded in
+    let old = c.args.site.now in
+    let mid = c.flush_found.new.site in
+    let at : c.draw-2.new.self ≡ l.first + 2 = omega (arith, c.in_ok-log.ensures.drawn.2, c.in_ok-manifest.ensures.drawn.2, c.from-numbers.ensures) in
+    let at_log : c.in_ok-log.log ≡ l.first + 1 = c.in_ok-log.ensures.drawn.0 ∙ c.in_ok-manifest.ensures.drawn.2 ∙ ap (λ (n : ℕ). n + 1) c.from-numbers.ensures in
+    let at_manifest : c.in_ok-manifest.manifest ≡ l.first = c.in_ok-manifest.ensures.drawn.0 ∙ c.from-numbers.ensures in
+    let most : c.flush_found.new.numbers ≤ 10 ^ 15 = omega (arith, c.next.ensures.value, c.next.ensures.bound) in
+    let flushes = c.in_ok-edit.ensures.flushes shown in
+    let keeps = c.flush_found.ensures.others shown in
+    let next = c.in_ok-version.ensures.next in
+    let e = c.in_ok-edit.edit in
+    let v = c.in_ok-version.version in
+    let h_after = after flush.tables flush.applies found h m l (site.disk old) (site.disk mid) e c.draw-2.new.self c.flush_found.new.numbers v s at c.requires.some most flushes keeps next.0 next.1 in
+    let live = live_after flush.tables flush.applies found h m l (site.disk old) (site.disk mid) e c.draw-2.new.self c.flush_found.new.numbers v s at c.requires.some most flushes keeps next.0 next.1
+    c.in_ok-log.log c.next.result at_log c.next.ensures.value in
+    let tables = λ (maps : Maps) (first : maps 0 ≡ m). tables_after flush.tables flush.applies found h m l (site.disk old) (site.disk mid) e c.draw-2.new.self c.flush_found.new.numbers v s at c.requires.some most flushes keeps next.0 next.1
+    maps c.in_ok-log.log first at_log in
+    let rests = rests_now site found h m l old s (g.met.S.Site.only_now shown old) c.drawn_files_let_disks_rest.ensures.rest laws.cuts mid c.draw-2.new.self at keeps c.flush_found.ensures.idle in
+    let spare : IsSpareFor found (Manifest c.in_ok-manifest.manifest) = subst (λ (n : ℕ). IsSpareFor found (Manifest n)) (sym at_manifest) (manifest_spare laws.numbers l.first found s.below) in
+    store_cuts site found h m l old s (g.met.S.Site.only_now shown old) c.drawn_files_let_disks_rest.ensures.rest laws.cuts mid c.draw-2.new.self at keeps c.flush_found.ensures.idle
+    c.start_store.new.site (c.flush_found.ensures.tells_nothing.told shown) (c.in_ok-edit.ensures.passed shown) (c.flush_found.ensures.cuts shown sure) (λ other. g.met.S.Site.only shown old other sure) sure
+    (λ certain. c.start_store.ensures.cuts shown certain found (λ n. m) h_after rests spare (tables (λ n. m) refl) live)
+
+pub returns-in_err-manifest-2-clause-settled : goal.returns-in_err-manifest-2-clause-settled
+returns-in_err-manifest-2-clause-settled g c = λ shown found h m s.
+    let site = g.S.Site in
+    let laws = c.barriers_let_disks_rest.ensures in
+    let flush = c.flushed_tables_make_the_map.ensures in
+    let l = c.args.loaded in
+    let old = c.args.site.now in
+    let mid = c.flush_found.new.site in
+    let at : c.draw-2.new.self ≡ l.first + 2 = omega (arith, c.in_ok-log.ensures.drawn.2, c.in_ok-manifest.ensures.drawn.2, c.from-numbers.ensures) in
+    let at_log : c.in_ok-log.log ≡ l.first + 1 = c.in_ok-log.ensures.drawn.0 ∙ c.in_ok-manifest.ensures.drawn.2 ∙ ap (λ (n : ℕ). n + 1) c.from-numbers.ensures in
+    let at_manifest : c.in_ok-manifest.manifest ≡ l.first = c.in_ok-manifest.ensures.drawn.0 ∙ c.from-numbers.ensures in
+    let most : c.flush_found.new.numbers ≤ 10 ^ 15 = omega (arith, c.next.ensures.value, c.next.ensures.bound) in
+    let flushes = c.in_ok-edit.ensures.flushes shown in
+    let keeps = c.flush_found.ensures.others shown in
+    let next = c.in_ok-version.ensures.next in
+    let e = c.in_ok-edit.edit in
+    let v = c.in_ok-version.version in
+    let h_after = after flush.tables flush.applies found h m l (site.disk old) (site.disk mid) e c.draw-2.new.self c.flush_found.new.numbers v s at c.requires.some most flushes keeps next.0 next.1 in
+    let live = live_after flush.tables flush.applies found h m l (site.disk old) (site.disk mid) e c.draw-2.new.self c.flush_found.new.numbers v s at c.requires.some most flushes keeps next.0 next.1
+    c.in_ok-log.log c.next.result at_log c.next.ensures.value in
+    let tables = λ (maps : Maps) (first : maps 0 ≡ m). tables_after flush.tables flush.applies found h m l (site.disk old) (site.disk mid) e c.draw-2.new.self c.flush_found.new.numbers v s at c.requires.some most flushes keeps next.0 next.1
+    maps c.in_ok-log.log first at_log in
+    let rests = rests_now site found h m l old s (g.met.S.Site.only_now shown old) c.drawn_files_let_disks_rest.ensures.rest laws.cuts mid c.draw-2.new.self at keeps c.flush_found.ensures.idle in
+    let spare : IsSpareFor found (Manifest c.in_ok-manifest.manifest) = subst (λ (n : ℕ). IsSpareFor found (Manifest n)) (sym at_manifest) (manifest_spare laws.numbers l.first found s.below) in
+    c.start_store.ensures.settled shown found (λ n. m) h_after rests spare (tables (λ n. m) refl) live
+
+pub returns-clause-sides : goal.returns-clause-sides
+returns-clause-sides g c = λ shown found h m s.
+    let site = g.S.Site in
+    let laws = c.barriers_let_disks_rest.ensures in
+    let flush = c.flushed_tables_make_the_map.ensures in
+    let l = c.args.loaded in
+    let old = c.args.site.now in
+    let mid = c.flush_found.new.site in
+    let at : c.draw-2.new.self ≡ l.first + 2 = omega (arith, c.in_ok-log.ensures.drawn.2, c.in_ok-manifest.ensures.drawn.2, c.from-numbers.ensures) in
+    let at_log : c.in_ok-log.log ≡ l.first + 1 = c.in_ok-log.ensures.drawn.0 ∙ c.in_ok-manifest.ensures.drawn.2 ∙ ap (λ (n : ℕ). n + 1) c.from-numbers.ensures in
+    let at_manifest : c.in_ok-manifest.manifest ≡ l.first = c.in_ok-manifest.ensures.drawn.0 ∙ c.from-numbers.ensures in
+    let most : c.flush_found.new.numbers ≤ 10 ^ 15 = omega (arith, c.next.ensures.value, c.next.ensures.bound) in
+    let flushes = c.in_ok-edit.ensures.flushes shown in
+    let keeps = c.flush_found.ensures.others shown in
+    let next = c.in_ok-version.ensures.next in
+    let e = c.in_ok-edit.edit in
+    let v = c.in_ok-version.version in
+    let h_after = after flush.tables flush.applies found h m l (site.disk old) (site.disk mid) e c.draw-2.new.self c.flush_found.new.numbers v s at c.requires.some most flushes keeps next.0 next.1 in
+    let live = live_after flush.tables flush.applies found h m l (site.disk old) (site.disk mid) e c.draw-2.new.self c.flush_found.new.numbers v s at c.requires.some most flushes keeps next.0 next.1
+    c.in_ok-log.log c.next.result at_log c.next.ensures.value in
+    let tables = λ (maps : Maps) (first : maps 0 ≡ m). tables_after flush.tables flush.applies found h m l (site.disk old) (site.disk mid) e c.draw-2.new.self c.flush_found.new.numbers v s at c.requires.some most flushes keeps next.0 next.1
+    maps c.in_ok-log.log first at_log in
+    let rests = rests_now site found h m l old s (g.met.S.Site.only_now shown old) c.drawn_files_let_disks_rest.ensures.rest laws.cuts mid c.draw-2.new.self at keeps c.flush_found.ensures.idle in
+    let spare : IsSpareFor found (Manifest c.in_ok-manifest.manifest) = subst (λ (n : ℕ). IsSpareFor found (Manifest n)) (sym at_manifest) (manifest_spare laws.numbers l.first found s.below) in
+    let start : LeavesOnly site.clock site.left_since mid c.start_store.new.site (IsOnEitherSide (log_name (l.first + 1)) (site.may_be mid) m (site.told mid)) =
+    subst (λ (n : ℕ). LeavesOnly site.clock site.left_since mid c.start_store.new.site (IsOnEitherSide (log_name n) (site.may_be mid) m (site.told mid))) at_log
+    (c.start_store.ensures.sides shown found (λ n. m) h_after rests spare (tables (λ n. m) refl) live) in
+    store_sides site found h m l old s (g.met.S.Site.only_now shown old) c.drawn_files_let_disks_rest.ensures.rest laws.cuts mid c.draw-2.new.self at keeps c.flush_found.ensures.idle
+    c.start_store.new.site (c.flush_found.ensures.tells_nothing.told shown) (c.in_ok-edit.ensures.passed shown) (c.flush_found.ensures.sides shown) start
+    (λ sure. c.start_store.ensures.cuts shown sure found (λ n. m) h_after rests spare (tables (λ n. m) refl) live)
+
+pub returns-clause-cuts : goal.returns-clause-cuts
+returns-clause-cuts g c = λ shown sure found h m s.
+    let site = g.S.Site in
+    let laws = c.barriers_let_disks_rest.ensures in
+    let flush = c.flushed_tables_make_the_map.ensures in
+    let l = c.args.loaded in
+    let old = c.args.site.now in
+    let mid = c.flush_found.new.site in
+    let at : c.draw-2.new.self ≡ l.first + 2 = omega (arith, c.in_ok-log.ensures.drawn.2, c.in_ok-manifest.ensures.drawn.2, c.from-numbers.ensures) in
+    let at_log : c.in_ok-log.log ≡ l.first + 1 = c.in_ok-log.ensures.drawn.0 ∙ c.in_ok-manifest.ensures.drawn.2 ∙ ap (λ (n : ℕ). n + 1) c.from-numbers.ensures in
+    let at_manifest : c.in_ok-manifest.manifest ≡ l.first = c.in_ok-manifest.ensures.drawn.0 ∙ c.from-numbers.ensures in
+    let most : c.flush_found.new.numbers ≤ 10 ^ 15 = omega (arith, c.next.ensures.value, c.next.ensures.bound) in
+    let flushes = c.in_ok-edit.ensures.flushes shown in
+    let keeps = c.flush_found.ensures.others shown in
+    let next = c.in_ok-version.ensures.next in
+    let e = c.in_ok-edit.edit in
+    let v = c.in_ok-version.version in
+    let h_after = after flush.tables flush.applies found h m l (site.disk old) (site.disk mid) e c.draw-2.new.self c.flush_found.new.numbers v s at c.requires.some most flushes keeps next.0 next.1 in
+    let live = live_after flush.tables flush.applies found h m l (site.disk old) (site.disk mid) e c.draw-2.new.self c.flush_found.new.numbers v s at c.requires.some most flushes keeps next.0 next.1
+    c.in_ok-log.log c.next.result at_log c.next.ensures.value in
+    let tables = λ (maps : Maps) (first : maps 0 ≡ m). tables_after flush.tables flush.applies found h m l (site.disk old) (site.disk mid) e c.draw-2.new.self c.flush_found.new.numbers v s at c.requires.some most flushes keeps next.0 next.1
+    maps c.in_ok-log.log first at_log in
+    let rests = rests_now site found h m l old s (g.met.S.Site.only_now shown old) c.drawn_files_let_disks_rest.ensures.rest laws.cuts mid c.draw-2.new.self at keeps c.flush_found.ensures.idle in
+    let spare : IsSpareFor found (Manifest c.in_ok-manifest.manifest) = subst (λ (n : ℕ). IsSpareFor found (Manifest n)) (sym at_manifest) (manifest_spare laws.numbers l.first found s.below) in
+    store_cuts site found h m l old s (g.met.S.Site.only_now shown old) c.drawn_files_let_disks_rest.ensures.rest laws.cuts mid c.draw-2.new.self at keeps c.flush_found.ensures.idle
+    c.start_store.new.site (c.flush_found.ensures.tells_nothing.told shown) (c.in_ok-edit.ensures.passed shown) (c.flush_found.ensures.cuts shown sure) (λ other. g.met.S.Site.only shown old other sure) sure
+    (λ certain. c.start_store.ensures.cuts shown certain found (λ n. m) h_after rests spare (tables (λ n. m) refl) live)
+
+pub returns-clause-settled : goal.returns-clause-settled
+returns-clause-settled g c = λ shown found h m s.
+    let site = g.S.Site in
+    let laws = c.barriers_let_disks_rest.ensures in
+    let flush = c.flushed_tables_make_the_map.ensures in
+    let l = c.args.loaded in
+    let old = c.args.site.now in
+    let mid = c.flush_found.new.site in
+    let at : c.draw-2.new.self ≡ l.first + 2 = omega (arith, c.in_ok-log.ensures.drawn.2, c.in_ok-manifest.ensures.drawn.2, c.from-numbers.ensures) in
+    let at_log : c.in_ok-log.log ≡ l.first + 1 = c.in_ok-log.ensures.drawn.0 ∙ c.in_ok-manifest.ensures.drawn.2 ∙ ap (λ (n : ℕ). n + 1) c.from-numbers.ensures in
+    let at_manifest : c.in_ok-manifest.manifest ≡ l.first = c.in_ok-manifest.ensures.drawn.0 ∙ c.from-numbers.ensures in
+    let most : c.flush_found.new.numbers ≤ 10 ^ 15 = omega (arith, c.next.ensures.value, c.next.ensures.bound) in
+    let flushes = c.in_ok-edit.ensures.flushes shown in
+    let keeps = c.flush_found.ensures.others shown in
+    let next = c.in_ok-version.ensures.next in
+    let e = c.in_ok-edit.edit in
+    let v = c.in_ok-version.version in
+    let h_after = after flush.tables flush.applies found h m l (site.disk old) (site.disk mid) e c.draw-2.new.self c.flush_found.new.numbers v s at c.requires.some most flushes keeps next.0 next.1 in
+    let live = live_after flush.tables flush.applies found h m l (site.disk old) (site.disk mid) e c.draw-2.new.self c.flush_found.new.numbers v s at c.requires.some most flushes keeps next.0 next.1
+    c.in_ok-log.log c.next.result at_log c.next.ensures.value in
+    let tables = λ (maps : Maps) (first : maps 0 ≡ m). tables_after flush.tables flush.applies found h m l (site.disk old) (site.disk mid) e c.draw-2.new.self c.flush_found.new.numbers v s at c.requires.some most flushes keeps next.0 next.1
+    maps c.in_ok-log.log first at_log in
+    let rests = rests_now site found h m l old s (g.met.S.Site.only_now shown old) c.drawn_files_let_disks_rest.ensures.rest laws.cuts mid c.draw-2.new.self at keeps c.flush_found.ensures.idle in
+    let spare : IsSpareFor found (Manifest c.in_ok-manifest.manifest) = subst (λ (n : ℕ). IsSpareFor found (Manifest n)) (sym at_manifest) (manifest_spare laws.numbers l.first found s.below) in
+    c.start_store.ensures.settled shown found (λ n. m) h_after rests spare (tables (λ n. m) refl) live
+
+pub returns-clause-opened : goal.returns-clause-opened
+returns-clause-opened g c = λ shown found h m s maps first.
+    let site = g.S.Site in
+    let laws = c.barriers_let_disks_rest.ensures in
+    let flush = c.flushed_tables_make_the_map.ensures in
+    let l = c.args.loaded in
+    let old = c.args.site.now in
+    let mid = c.flush_found.new.site in
+    let at : c.draw-2.new.self ≡ l.first + 2 = omega (arith, c.in_ok-log.ensures.drawn.2, c.in_ok-manifest.ensures.drawn.2, c.from-numbers.ensures) in
+    let at_log : c.in_ok-log.log ≡ l.first + 1 = c.in_ok-log.ensures.drawn.0 ∙ c.in_ok-manifest.ensures.drawn.2 ∙ ap (λ (n : ℕ). n + 1) c.from-numbers.ensures in
+    let at_manifest : c.in_ok-manifest.manifest ≡ l.first = c.in_ok-manifest.ensures.drawn.0 ∙ c.from-numbers.ensures in
+    let most : c.flush_found.new.numbers ≤ 10 ^ 15 = omega (arith, c.next.ensures.value, c.next.ensures.bound) in
+    let flushes = c.in_ok-edit.ensures.flushes shown in
+    let keeps = c.flush_found.ensures.others shown in
+    let next = c.in_ok-version.ensures.next in
+    let e = c.in_ok-edit.edit in
+    let v = c.in_ok-version.version in
+    let h_after = after flush.tables flush.applies found h m l (site.disk old) (site.disk mid) e c.draw-2.new.self c.flush_found.new.numbers v s at c.requires.some most flushes keeps next.0 next.1 in
+    let live = live_after flush.tables flush.applies found h m l (site.disk old) (site.disk mid) e c.draw-2.new.self c.flush_found.new.numbers v s at c.requires.some most flushes keeps next.0 next.1
+    c.in_ok-log.log c.next.result at_log c.next.ensures.value in
+    let tables = λ (maps : Maps) (first : maps 0 ≡ m). tables_after flush.tables flush.applies found h m l (site.disk old) (site.disk mid) e c.draw-2.new.self c.flush_found.new.numbers v s at c.requires.some most flushes keeps next.0 next.1
+    maps c.in_ok-log.log first at_log in
+    let rests = rests_now site found h m l old s (g.met.S.Site.only_now shown old) c.drawn_files_let_disks_rest.ensures.rest laws.cuts mid c.draw-2.new.self at keeps c.flush_found.ensures.idle in
+    let spare : IsSpareFor found (Manifest c.in_ok-manifest.manifest) = subst (λ (n : ℕ). IsSpareFor found (Manifest n)) (sym at_manifest) (manifest_spare laws.numbers l.first found s.below) in
+    record {
+      holding = h_after;
+      live = live;
+      batches = (tables maps first).batches;
+      steady = c.in_ok-manifest-2.ensures.steady shown maps h_after (tables maps first) live;
+    }

@@ -1,0 +1,37 @@
+use Rattle.std.proofs.Common.{◌≡◌, ap, sym, subst}
+use Rattle.std.specs.FinMap.{empty}
+use Rattle.std.specs.Prelude.{IfOk}
+use Rattle.bl_site.specs.Disk.{Folder, folder_of}
+use Rattle.bl_folder.specs.Settled.{IsSettled}
+use Rattle.bl_open.proofs.OpenedLemmas.{nothing_cuts, then_cuts}
+use Rattle.bl_open.proofs.ReadLemmas.{reads_make_nothing}
+use Rattle.bl_open.specs.Recovering.{TakesFresh}
+use Rattle.bl_open.proofs.opening.create.Goals as goal
+
+pub returns-in_err-files-clause-cuts : goal.returns-in_err-files-clause-cuts
+returns-in_err-files-clause-cuts g c = λ shown settled.
+    let laws = g.met.S.Site in
+    nothing_cuts g.S.Site shown (λ site. laws.only_now shown site) (λ site. laws.counts_now shown site) (λ site other sure. laws.only shown site other sure) empty c.args.site.now c.list_files.new.site
+    (reads_make_nothing g.S.Site shown (λ site. laws.only_now shown site) (λ site. laws.counts_now shown site) (λ site other sure. laws.only shown site other sure) c.args.site.now c.list_files.new.site c.list_files.ensures.quiet)
+
+pub returns-in_err-files-clause-settled : goal.returns-in_err-files-clause-settled
+returns-in_err-files-clause-settled g c = λ shown settled. subst IsSettled (sym (c.list_files.ensures.quiet.stays shown).same) settled
+
+pub returns-clause-takes : goal.returns-clause-takes
+returns-clause-takes g c = λ shown.
+    let same : folder_of (g.S.Site.disk c.list_files.new.site) ≡ folder_of (g.S.Site.disk c.args.site.now) = ap folder_of (c.list_files.ensures.quiet.stays shown).same in
+    subst (λ (f : Folder). IfOk c.create_among.result (TakesFresh f c.args.options.now)) same (c.create_among.ensures.takes shown)
+
+pub returns-clause-opened : goal.returns-clause-opened
+returns-clause-opened g c = λ shown settled maps first.
+    c.create_among.ensures.opened shown (subst IsSettled (sym (c.list_files.ensures.quiet.stays shown).same) settled) maps first
+
+pub returns-clause-cuts : goal.returns-clause-cuts
+returns-clause-cuts g c = λ shown settled.
+    let laws = g.met.S.Site in
+    then_cuts g.S.Site shown (λ site. laws.only_now shown site) (λ site. laws.counts_now shown site) (λ site other sure. laws.only shown site other sure) empty c.args.site.now c.list_files.new.site c.create_among.new.site
+    (reads_make_nothing g.S.Site shown (λ site. laws.only_now shown site) (λ site. laws.counts_now shown site) (λ site other sure. laws.only shown site other sure) c.args.site.now c.list_files.new.site c.list_files.ensures.quiet)
+    (c.create_among.ensures.cuts shown (subst IsSettled (sym (c.list_files.ensures.quiet.stays shown).same) settled))
+
+pub returns-clause-settled : goal.returns-clause-settled
+returns-clause-settled g c = λ shown settled. c.create_among.ensures.settled shown (subst IsSettled (sym (c.list_files.ensures.quiet.stays shown).same) settled)

@@ -1,0 +1,63 @@
+use Rattle.std.proofs.Common.{◌≤◌, inl, None, sym, subst, refl, arith}
+use Rattle.std.specs.FinMap.{empty}
+use Rattle.bl_site.specs.Disk.{folder_of}
+use Rattle.bl_build.specs.Listing.{nothing}
+use Rattle.bl_build.specs.Versions.{IsVersion}
+use Rattle.bl_folder.specs.Holding.{Holding}
+use Rattle.bl_folder.specs.Numbers.{IsFirstNumber}
+use Rattle.bl_open.proofs.OpenedLemmas.{each_ok, nothing_passes}
+use Rattle.bl_open.proofs.StartingLemmas.{starts_fresh}
+use Rattle.bl_open.specs.Beginning.{IsNumbered, first_file}
+use Rattle.bl_open.specs.Fresh.{no_holding}
+use Rattle.bl_open.specs.Recovering.{TakesFresh}
+use Rattle.bl_open.specs.declared.begin.Loaded.{Loaded}
+use Rattle.bl_open.proofs.opening.create_among.Goals as goal
+
+pub returns-clause-takes : goal.returns-clause-takes
+returns-clause-takes g c = λ shown.
+    let folder = folder_of (g.S.Site.disk c.args.site.now) in
+    let l : Loaded = record { version = c.empty-version.result; options = c.args.options; memory = c.start.result; last = 0; first = c.first_number.result } in
+    let is : IsVersion nothing = subst IsVersion c.empty-version.ensures c.version_is_in_order.ensures in
+    let some : 1 ≤ 1 = omega arith in
+    let first : IsFirstNumber folder nothing 1 c.first_number.result = c.first_number.ensures.first folder nothing is (nothing_passes folder) (c.requires.listed shown) (inl some) in
+    each_ok c.begin.result (IsNumbered l) (TakesFresh folder c.args.options)
+    (λ o n. record {
+      fresh = c.requires.fresh shown;
+      first = subst (IsFirstNumber folder nothing 1) (sym n.manifest) first;
+      options_are = n.options;
+      last = n.last;
+    })
+    c.begin.ensures.numbered
+
+pub returns-clause-opened : goal.returns-clause-opened
+returns-clause-opened g c = λ shown settled maps at_first.
+    let disk = g.S.Site.disk c.args.site.now in
+    let l : Loaded = record { version = c.empty-version.result; options = c.args.options; memory = c.start.result; last = 0; first = c.first_number.result } in
+    let is : IsVersion nothing = subst IsVersion c.empty-version.ensures c.version_is_in_order.ensures in
+    let some : 1 ≤ 1 = omega arith in
+    let first = c.first_number.ensures.first (folder_of disk) nothing is (nothing_passes (folder_of disk)) (c.requires.listed shown) (inl some) in
+    let h : Holding = no_holding (record { log_number = l.first; next_file = l.first; last_sequence = 0; options = l.options }) in
+    let s = starts_fresh c.barriers_let_disks_rest.ensures.fresh c.stores_begin.ensures.fresh c.memories_tell_what_was_inserted.ensures.memory c.batches_are_held.ensures.none disk l settled (c.requires.fresh shown) is first c.empty-version.ensures c.start.ensures refl in
+    c.begin.ensures.opened shown None h empty s maps at_first
+
+pub returns-clause-cuts : goal.returns-clause-cuts
+returns-clause-cuts g c = λ shown settled.
+    let disk = g.S.Site.disk c.args.site.now in
+    let l : Loaded = record { version = c.empty-version.result; options = c.args.options; memory = c.start.result; last = 0; first = c.first_number.result } in
+    let is : IsVersion nothing = subst IsVersion c.empty-version.ensures c.version_is_in_order.ensures in
+    let some : 1 ≤ 1 = omega arith in
+    let first = c.first_number.ensures.first (folder_of disk) nothing is (nothing_passes (folder_of disk)) (c.requires.listed shown) (inl some) in
+    let h : Holding = no_holding (record { log_number = l.first; next_file = l.first; last_sequence = 0; options = l.options }) in
+    let s = starts_fresh c.barriers_let_disks_rest.ensures.fresh c.stores_begin.ensures.fresh c.memories_tell_what_was_inserted.ensures.memory c.batches_are_held.ensures.none disk l settled (c.requires.fresh shown) is first c.empty-version.ensures c.start.ensures refl in
+    record { first = first_file l.memory l.first; sides = c.begin.ensures.sides shown None h empty s }
+
+pub returns-clause-settled : goal.returns-clause-settled
+returns-clause-settled g c = λ shown settled.
+    let disk = g.S.Site.disk c.args.site.now in
+    let l : Loaded = record { version = c.empty-version.result; options = c.args.options; memory = c.start.result; last = 0; first = c.first_number.result } in
+    let is : IsVersion nothing = subst IsVersion c.empty-version.ensures c.version_is_in_order.ensures in
+    let some : 1 ≤ 1 = omega arith in
+    let first = c.first_number.ensures.first (folder_of disk) nothing is (nothing_passes (folder_of disk)) (c.requires.listed shown) (inl some) in
+    let h : Holding = no_holding (record { log_number = l.first; next_file = l.first; last_sequence = 0; options = l.options }) in
+    let s = starts_fresh c.barriers_let_disks_rest.ensures.fresh c.stores_begin.ensures.fresh c.memories_tell_what_was_inserted.ensures.memory c.batches_are_held.ensures.none disk l settled (c.requires.fresh shown) is first c.empty-version.ensures c.start.ensures refl in
+    c.begin.ensures.settled shown None h empty s

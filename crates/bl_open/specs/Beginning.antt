@@ -1,0 +1,63 @@
+-- What an opening begins with behind its barrier, and what it leaves.
+use Rattle.std.specs.Prelude.{◌≡◌, ℕ, ◌+◌, List, [], ◌∷◌, false, None, Some}
+use Rattle.bl_site.specs.Disk.{Disk, Name}
+use Rattle.bl_names.specs.declared.name.FileName.TheVariants.{Table}
+use Rattle.bl_names.specs.Names.{name_of}
+use Rattle.bl_entry.specs.declared.key.Entry.{Entry}
+use Rattle.bl_entry.specs.Revisions.{Map}
+use Rattle.bl_build.specs.Restoring.{Restored}
+use Rattle.bl_build.specs.Snapshots.{snapshot}
+use Rattle.bl_wal.specs.Held.{HoldsBatches}
+use Rattle.bl_wal.specs.LogFile.{log_name, new_log}
+use Rattle.bl_folder.specs.Holding.{Holding}
+use Rattle.bl_open.specs.Flushing.{IsLoaded}
+use Rattle.bl_open.specs.Found.{AreAllBelow, Found, RestsAs}
+use Rattle.bl_open.specs.Installations.{IsInstalled}
+use Rattle.bl_open.specs.Steady.{Maps, IsSteady}
+use Rattle.bl_open.specs.SteadyCalls.{begun}
+use Rattle.bl_open.specs.declared.begin.Loaded.{Loaded}
+use Rattle.bl_open.specs.declared.begin.Opened.{Opened}
+
+-- in a fresh folder no entry was found, and else the live part is what was found
+abbrev pub IsFoundIn : Found → Holding → List Entry → Type 0
+IsFoundIn None h memory = memory ≡ []
+IsFoundIn (Some found) h memory = h.live ≡ found.1
+
+-- The disk rests as what was found, with this map; what is held of it was loaded, and the first number for a new file is above all that was found.
+pub record StartsFrom (found : Found) (h : Holding) (m : Map) (l : Loaded) (disk : Disk) : Type 0 where
+  pub rests : RestsAs found m disk
+  pub loaded : IsLoaded h m l.memory l.first disk
+  pub found_in : IsFoundIn found h l.memory
+  pub below : AreAllBelow l.first found
+  pub version_is : h.live.version ≡ l.version
+  pub options_are : h.live.standing.options ≡ l.options
+  pub last_is : h.last ≡ l.last
+
+-- the first file that an opening makes: its table, or its log where no entry was found
+abbrev pub first_file : List Entry → ℕ → Name
+first_file [] first = log_name (first + 1)
+first_file (e ∷ es) first = name_of (Table (first + 2))
+
+abbrev pub live_of : Opened → Restored
+live_of o = record { version = o.version; standing = o.standing }
+
+-- The manifest has the first number and the log the one behind it; what stands beside the version is what was loaded.
+pub record IsNumbered (l : Loaded) (o : Opened) : Type 0 where
+  pub manifest : o.manifest.number ≡ l.first
+  pub usable : o.manifest.failed ≡ false
+  pub log : o.standing.log_number ≡ l.first + 1
+  pub wal : o.wal ≡ new_log (l.first + 1)
+  pub options : o.standing.options ≡ l.options
+  pub last : o.standing.last_sequence ≡ l.last
+
+-- CURRENT and its manifest, all of it synced, restore what was opened, and the log in use is empty.
+pub record IsInPlace (o : Opened) (disk : Disk) : Type 0 where
+  pub installed : IsInstalled o.manifest.number (live_of o) disk
+  pub log : HoldsBatches disk o.wal [] 0
+
+-- A store begins on the disk, with the opened manifest and log, and with tables and blob files that alone make the first of the maps.
+pub record IsOpened (maps : Maps) (o : Opened) (disk : Disk) : Type 0 where
+  pub holding : Holding
+  pub live : holding.live ≡ live_of o
+  pub batches : holding.batches ≡ []
+  pub steady : IsSteady maps (begun o.manifest (snapshot o.version o.standing ∷ []) o.standing.log_number holding 0) disk

@@ -1,0 +1,95 @@
+-- What an opening reads of a folder, and what it answers.
+use Rattle.std.specs.Prelude.{◌≡◌, ◌⊎◌, ℕ, ◌^◌, ◌<◌, ◌≤◌, List, Result, Ok, Err}
+use Rattle.bl_site.specs.Disk.{Folder, Name}
+use Rattle.bl_site.specs.Calls.{LeavesOnly}
+use Rattle.bl_site.specs.declared.site.Site.{Ghosts}
+use Rattle.bl_entry.specs.Revisions.{Map}
+use Rattle.bl_build.specs.Restoring.{Restored}
+use Rattle.bl_flush.specs.Jobs.{ArePutsAndDeletions}
+use Rattle.bl_entry.specs.Batches.{Batch}
+use Rattle.bl_edit.specs.Options.{Values}
+use Rattle.bl_build.specs.Listing.{nothing}
+use Rattle.bl_folder.specs.Live.{IsFresh, IsLive}
+use Rattle.bl_folder.specs.Logs.{HaveBatches}
+use Rattle.bl_folder.specs.Numbers.{IsFirstNumber}
+use Rattle.bl_open.specs.Barrier.{IsOnEitherSide}
+use Rattle.bl_open.specs.Checks.{AllPass}
+use Rattle.bl_open.specs.Damage.{HoldingFails, LacksLive}
+use Rattle.bl_open.specs.Options.{Words, check_options, defaults, given_or}
+use Rattle.bl_open.specs.Replaying.{HasReplayedLogs}
+use Rattle.bl_open.specs.declared.begin.Loaded.{Loaded}
+use Rattle.bl_open.specs.declared.begin.Opened.{Opened}
+use Rattle.bl_open.specs.declared.error.OpenErr.{OpenErr}
+use Rattle.bl_open.specs.declared.error.OpenErr.TheVariants.{Disk as DiskFailed, Corrupt, Full, Differ, OutOfMemory}
+
+-- the live part of the folder was loaded: its files pass, and the entries of its needed logs are in the memory
+pub record HasLoaded (folder : Folder) (manifest : ℕ) (words : Words) (l : Loaded) : Type 0 where
+  pub live : Restored
+  pub is_live : IsLive folder manifest live
+  pub version_is : live.version ≡ l.version
+  pub options_are : live.standing.options ≡ l.options
+  pub agree : check_options live.standing.options words ≡ Ok tt
+  pub pass : AllPass folder live.version
+  pub logs : HasReplayedLogs folder live.standing.log_number live.standing.last_sequence l.memory l.last
+  pub first : IsFirstNumber folder live.version live.standing.next_file l.first
+
+-- what was loaded is in bounds: the first number is one that a file may have or the one behind, the sequences are below 2 ^ 56, and the memory has puts and deletions alone
+pub record IsBounded (l : Loaded) : Type 0 where
+  pub some : 1 ≤ l.first
+  pub most : l.first ≤ 10 ^ 15
+  pub last : l.last < 2 ^ 56
+  pub plain : ArePutsAndDeletions l.memory
+
+-- An opening with these words is refused: where the folder lacks a live part, by that place; else where a word is not the stored value, by the first such option; else where what the live part names does not hold, by that place.
+abbrev pub IsRefused : Folder → Words → OpenErr → Type 0
+IsRefused folder words (Corrupt name place) =
+    LacksLive folder name place
+    ⊎ ((manifest : ℕ) × ((live : Restored) × IsLive folder manifest live × (check_options live.standing.options words ≡ Ok tt) × HoldingFails folder live name place))
+IsRefused folder words (Differ option stored asked) =
+    (manifest : ℕ) × ((live : Restored) × IsLive folder manifest live × (check_options live.standing.options words ≡ Err (Differ option stored asked)))
+IsRefused folder words DiskFailed = ⊥
+IsRefused folder words (Full next) = ⊥
+IsRefused folder words OutOfMemory = ⊥
+
+-- an answer that tells what is wrong with the folder or with the words
+abbrev pub IsTelling : OpenErr → Type 0
+IsTelling (Corrupt name place) = Unit {0}
+IsTelling (Differ option stored asked) = Unit {0}
+IsTelling DiskFailed = ⊥
+IsTelling (Full next) = ⊥
+IsTelling OutOfMemory = ⊥
+
+-- this is answered, unless the disk failed or memory ran out
+abbrev pub AnswersOnly : {T : Type 0} → OpenErr → Result T OpenErr → Type 0
+AnswersOnly e (Ok x) = ⊥
+AnswersOnly e (Err f) = (f ≡ e) ⊎ ((f ≡ DiskFailed) ⊎ (f ≡ OutOfMemory))
+
+-- Corrupt and Differ are answered exactly where the opening is refused so, unless the disk failed or memory ran out.
+pub record AnswersAsRefused {T : Type 0} (folder : Folder) (words : Words) (result : Result T OpenErr) : Type 0 where
+  pub only : (e : OpenErr) → result ≡ Err e → IsTelling e → IsRefused folder words e
+  pub due : (e : OpenErr) → IsRefused folder words e → AnswersOnly e result
+
+-- A store was begun in a fresh folder with these options, and its manifest has the first number.
+pub record TakesFresh (folder : Folder) (options : Values) (o : Opened) : Type 0 where
+  pub fresh : IsFresh folder
+  pub first : IsFirstNumber folder nothing 1 o.manifest.number
+  pub options_are : o.standing.options ≡ options
+  pub last : o.standing.last_sequence ≡ 0
+
+-- It was begun on the live part of a folder: it has its options and the last sequence of its batches.
+pub record TakesLive (folder : Folder) (o : Opened) : Type 0 where
+  pub manifest : ℕ
+  pub live : Restored
+  pub is_live : IsLive folder manifest live
+  pub first : IsFirstNumber folder live.version live.standing.next_file o.manifest.number
+  pub options_are : o.standing.options ≡ live.standing.options
+  pub batches : List Batch
+  pub have : HaveBatches folder live.standing.log_number live.standing.last_sequence batches o.standing.last_sequence
+
+abbrev pub TakesOver : Folder → Words → Opened → Type 0
+TakesOver folder words o = TakesFresh folder (given_or defaults words) o ⊎ TakesLive folder o
+
+-- There is a first file of the opening. A cut leaves what one before the opening might have left, perhaps with this file besides, which is empty; or it leaves the map.
+pub record CutsAtBarrier {S : Type 0} (g : Ghosts S) (m : Map) (old new : S) : Type 0 where
+  pub first : Name
+  pub sides : LeavesOnly g.clock g.left_since old new (IsOnEitherSide first (g.may_be old) m (g.told old))
