@@ -5,9 +5,15 @@
 #[cfg(test)]
 mod blobs;
 #[cfg(test)]
+mod flushes;
+#[cfg(test)]
+mod jobs;
+#[cfg(test)]
 mod logs;
 #[cfg(test)]
 mod manifests;
+#[cfg(test)]
+mod outputs;
 #[cfg(test)]
 mod records;
 #[cfg(test)]
