@@ -89,7 +89,7 @@ pub record TakesLive (folder : Folder) (o : Opened) : Type 0 where
 abbrev pub TakesOver : Folder → Words → Opened → Type 0
 TakesOver folder words o = TakesFresh folder (given_or defaults words) o ⊎ TakesLive folder o
 
--- There is a first file of the opening. A cut leaves what one before the opening might have left, perhaps with this file besides, which is empty; or it leaves the map.
+-- There is a first file of the opening. A cut leaves what one before the opening might have left, but that this file may be there, empty; or it leaves the map.
 pub record CutsAtBarrier {S : Type 0} (g : Ghosts S) (m : Map) (old new : S) : Type 0 where
   pub first : Name
   pub sides : LeavesOnly g.clock g.left_since old new (IsOnEitherSide first (g.may_be old) m (g.told old))

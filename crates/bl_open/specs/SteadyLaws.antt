@@ -130,7 +130,7 @@ SwitchesKeepSteady = (maps : Maps) (s : Steady) (number : ℕ) (old new : Disk) 
 
 -- ---- installations
 
--- While an edit is appended to the manifest and synced, a cut leaves the manifest without it or with it, and both stand for the map after the same writes;
+-- While an edit is appended to the manifest and synced, a cut leaves the map after the same writes;
 abbrev pub CutsOfInstalling : Type 0
 CutsOfInstalling = (maps : Maps) (s : Steady) (e : Edit) (h : Holding) (before below : ℕ) (disk during : Disk) (told : List ℕ) (c : Cut) → IsSteady maps s disk → s.manifest.failed ≡ false
     → AreReadBack (e ∷ []) → Installs maps s e h before below disk

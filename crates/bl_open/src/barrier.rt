@@ -26,10 +26,9 @@ use bl_site::Site;
 use std::alloc::Global;
 
 /// Syncs a file that is in the folder. Whatever it answers, a cut meanwhile leaves a folder that one before might have
-/// left; a settled disk stays settled, but that after `Disk` a torn fragment's checksum may match by chance.
+/// left; a settled disk stays settled, but that after a failure a torn fragment's checksum may match by chance.
 ///
-/// Errors: `Disk`, after which the bytes since the last sync may read as any others; `OutOfMemory`, after which the
-/// folder is as it was.
+/// Errors: `Disk`; `OutOfMemory`.
 pub(crate) fn sync_file<S: Site>(
     alloc: Global,
     site: &mut S,
@@ -57,7 +56,7 @@ pub(crate) fn sync_file<S: Site>(
 /// Syncs the logs of these numbers, which are all that the folder has, in this order. What a cut meanwhile leaves, and
 /// how a settled disk stays settled, is as for one file.
 ///
-/// Errors: `Disk`, after which the bytes of one log since its last sync may read as any others; `OutOfMemory`.
+/// Errors: `Disk`; `OutOfMemory`.
 pub(crate) fn sync_logs<S: Site>(
     alloc: Global,
     site: &mut S,
@@ -89,7 +88,7 @@ pub(crate) fn sync_logs<S: Site>(
 /// might have left. Where CURRENT names this manifest, the disk was settled and its folder stood for a map, it is at rest
 /// at `Ok`.
 ///
-/// Errors: `Disk`, after which the bytes of one file since its last sync may read as any others; `OutOfMemory`.
+/// Errors: `Disk`; `OutOfMemory`.
 pub(crate) fn sync_found<S: Site>(
     alloc: Global,
     site: &mut S,

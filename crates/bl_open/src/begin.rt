@@ -68,7 +68,8 @@ pub struct Opened {
     pub wal: Wal,
 }
 
-// The version behind the edit of a flush. It is refused for want of memory alone: new files fit every version that has lower numbers.
+// The version behind the edit of a flush. Any refusal is answered as want of memory: new files fit every version that has lower numbers, which no
+// clause can say here.
 fn next_version(alloc: Global, version: Version, edit: &Edit) -> Result<Version, OpenErr>
     requires { IsEdit edit.now }
     ensures next { IfOk result (λ next. (apply version edit.now ≡ Ok next) × IsVersion next) }

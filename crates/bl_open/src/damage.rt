@@ -52,8 +52,8 @@ pub fn refusals_are_one()
     lacking_folders_are_not_live();
 }
 
-/// Where a version's files are all there, the first number that an opening may take is the next file number, or one more than
-/// the greatest number of a name.
+/// Where a version's files pass their checks, and the next file number is at least 1 or CURRENT is there, the first number that an
+/// opening may take is the next file number, or one more than the greatest number of a name, whichever is greater.
 pub fn first_number_is_behind_all()
     ensures { FirstNumberIs }
 {}

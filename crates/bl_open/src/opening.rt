@@ -81,8 +81,8 @@ fn create_among<S: Site>(
 }
 
 /// Makes a fresh folder a store's: an empty log, a manifest of one record with these options, and CURRENT, which names it. The folder
-/// is listed once. From a settled disk, a cut meanwhile leaves what one before might have left, perhaps with the log besides, or a folder that
-/// stands for the empty map; at `Ok` the disk is steady.
+/// is listed once. From a settled disk, a cut meanwhile leaves what one before might have left, but that one file may be there, empty, or a folder that
+/// stands for the empty map; at `Ok` the disk is steady. A settled disk stays settled, and at `Ok` no name call is in doubt.
 ///
 /// Errors: `Disk`; `Full(10^15)`, where the numbers are used up; `OutOfMemory`.
 pub fn create<S: Site>(alloc: Global, site: &mut S, options: &Options) -> Result<Opened, OpenErr>
@@ -197,11 +197,11 @@ fn recover_live<S: Site>(
 /// and the needed logs are replayed; then the entries that they held are flushed, and a new log and a new manifest take their place. The folder is listed
 /// once, and no file is read whole but the manifest and the logs.
 ///
-/// From a settled disk whose folder stands for a map, a cut meanwhile leaves what one before might have left, perhaps with the first new file besides, empty,
-/// or a folder that stands for this map; at `Ok` the disk is steady for it. Nothing is told.
+/// From a settled disk whose folder stands for a map, a cut meanwhile leaves what one before might have left, but that one file may be there, empty,
+/// or a folder that stands for this map; at `Ok` the disk is steady for it, and no name call is in doubt. Nothing is told.
 ///
 /// Errors: `Corrupt` with the first damaged name and place, and `Differ` at the first option whose word is not the stored value, each exactly where that
-/// comes first: CURRENT and its manifest, then the words, then tables, blob files and logs; the folder reads as before. `Disk`; `Full(10^15)`, where the numbers are
+/// comes first and neither `Disk` nor `OutOfMemory` is answered: CURRENT and its manifest, then the words, then tables, blob files and logs; the folder reads as before. `Disk`; `Full(10^15)`, where the numbers are
 /// used up; `OutOfMemory`.
 pub fn recover<S: Site>(alloc: Global, site: &mut S, asked: &Asked) -> Result<Opened, OpenErr>
     ensures takes { S.shows → IfOk result (TakesOver (folder_of (S.disk site.old)) asked.now) }

@@ -77,8 +77,8 @@ pub fn writes_keep_disks_steady()
     synced_manifests_are_left();
 }
 
-/// While an edit is appended to the manifest and synced, a power cut leaves the manifest without it or with it,
-/// and both stand for the map after the same writes; then the disk is steady with what was installed.
+/// While an edit is appended to the manifest and synced, a power cut leaves a folder for the map after the same writes, unless the
+/// checksum of a torn fragment matches by chance; then the disk is steady with what was installed.
 pub fn installations_keep_disks_steady()
     ensures cuts { CutsOfInstalling }
     ensures settled { TornInstallsAreSettled }
