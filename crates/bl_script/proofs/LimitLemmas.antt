@@ -13,7 +13,7 @@ use Rattle.bl_script.specs.declared.command.Command.{Command}
 use Rattle.bl_script.specs.declared.command.Refusal.TheVariants as refused
 use Rattle.bl_script.specs.declared.command.Parsed.{Parsed}
 use Rattle.bl_script.specs.declared.command.Parsed.TheVariants.{Nothing, Refused, Go}
-use Rattle.bl_script.specs.declared.command.Command.TheVariants.{Put, Del, Batch, Get, Scan, Sync, Reopen}
+use Rattle.bl_script.specs.declared.command.Command.TheVariants.{Put, Del, Batch, Get, Scan, Sync, Flush, Files, Reopen}
 
 -- no word is empty
 abbrev AreSome : List (List ℕ) → Type 0
@@ -100,6 +100,8 @@ HasKeys (Batch os) = HaveKeys 67108864 os
 HasKeys (Get key) = Unit {0}
 HasKeys (Scan from to) = Unit {0}
 HasKeys Sync = Unit {0}
+HasKeys Flush = Unit {0}
+HasKeys Files = Unit {0}
 HasKeys Reopen = Unit {0}
 
 scan_has : (ws : List (List ℕ)) → IfSome (scan_of ws) HasKeys
@@ -117,7 +119,11 @@ batch_has (w ∷ ws) some few =
 
 fixed_has : (verb : List ℕ) (ws : List (List ℕ)) → AreSome ws → IfSome (fixed_of verb ws) HasKeys
 unfolding HasKeys
-fixed_has verb [] some = either HasKeys (is verb (codes "sync")) (Some Sync) _ tt (either HasKeys (is verb (codes "reopen")) (Some Reopen) None tt tt)
+fixed_has verb [] some =
+    either HasKeys (is verb (codes "sync")) (Some Sync) _ tt
+    (either HasKeys (is verb (codes "flush")) (Some Flush) _ tt
+    (either HasKeys (is verb (codes "files")) (Some Files) _ tt
+    (either HasKeys (is verb (codes "reopen")) (Some Reopen) None tt tt)))
 fixed_has verb (a ∷ []) some =
     either HasKeys (is verb (codes "del")) (Some (Del (percent_decode a))) _ (decodes_some a some.0) (either HasKeys (is verb (codes "get")) (Some (Get (percent_decode a))) None tt tt)
 fixed_has verb (a ∷ b ∷ []) some =
@@ -157,6 +163,8 @@ passed (Batch os) has k v = (each_within os has.keys k v, omega (arith, has.few)
 passed (Get key) has k v = tt
 passed (Scan from to) has k v = tt
 passed Sync has k v = tt
+passed Flush has k v = tt
+passed Files has k v = tt
 passed Reopen has k v = tt
 
 by_test : (P : Parsed → Type 0) (t : Bool) (x y : Parsed) → (t ≡ true → P x) → (t ≡ false → P y) → P (cond t x y)

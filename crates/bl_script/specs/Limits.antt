@@ -5,7 +5,7 @@ use Rattle.bl_code.specs.declared.limits.TheConstants.{MAX_KEY, MAX_VALUE}
 use Rattle.bl_script.specs.declared.command.Operation.{Operation}
 use Rattle.bl_script.specs.declared.command.Operation.TheVariants as op
 use Rattle.bl_script.specs.declared.command.Command.{Command}
-use Rattle.bl_script.specs.declared.command.Command.TheVariants.{Put, Del, Batch, Get, Scan, Sync, Reopen}
+use Rattle.bl_script.specs.declared.command.Command.TheVariants.{Put, Del, Batch, Get, Scan, Sync, Flush, Files, Reopen}
 use Rattle.bl_script.specs.declared.command.Parsed.{Parsed}
 use Rattle.bl_script.specs.declared.command.Parsed.TheVariants.{Nothing, Refused, Go}
 use Rattle.bl_script.specs.Parsing.{parsed}
@@ -30,6 +30,8 @@ IsCommand (Batch operations) = AllByRecursion IsOperation operations × (length 
 IsCommand (Get key) = Unit {0}
 IsCommand (Scan from to) = Unit {0}
 IsCommand Sync = Unit {0}
+IsCommand Flush = Unit {0}
+IsCommand Files = Unit {0}
 IsCommand Reopen = Unit {0}
 
 abbrev pub IsWithinLimits : Parsed → Type 0

@@ -8,7 +8,7 @@ use Rattle.bl_script.specs.Lines.{words}
 use Rattle.bl_script.specs.declared.command.Operation.{Operation}
 use Rattle.bl_script.specs.declared.command.Operation.TheVariants as op
 use Rattle.bl_script.specs.declared.command.Command.{Command}
-use Rattle.bl_script.specs.declared.command.Command.TheVariants.{Put, Del, Batch, Get, Scan, Sync, Reopen}
+use Rattle.bl_script.specs.declared.command.Command.TheVariants.{Put, Del, Batch, Get, Scan, Sync, Flush, Files, Reopen}
 use Rattle.bl_script.specs.declared.command.Refusal.TheVariants as refused
 use Rattle.bl_script.specs.declared.command.Parsed.{Parsed}
 use Rattle.bl_script.specs.declared.command.Parsed.TheVariants.{Nothing, Refused, Go}
@@ -51,7 +51,12 @@ scan_of (a ∷ b ∷ []) = bound a then λ from. bound b then λ to. Some (Scan 
 scan_of (a ∷ b ∷ c ∷ more) = None
 
 abbrev pub with_none : List ℕ → Option Command
-with_none verb = if is verb (codes "sync") then Some Sync else if is verb (codes "reopen") then Some Reopen else None
+with_none verb =
+    if is verb (codes "sync") then Some Sync
+    else if is verb (codes "flush") then Some Flush
+    else if is verb (codes "files") then Some Files
+    else if is verb (codes "reopen") then Some Reopen
+    else None
 
 abbrev pub with_one : List ℕ → List ℕ → Option Command
 with_one verb a =
@@ -103,6 +108,8 @@ has_long_key (Batch os) = list_any puts_long_key os
 has_long_key (Get key) = is_long_key key
 has_long_key (Scan from to) = is_long_bound from || is_long_bound to
 has_long_key Sync = false
+has_long_key Flush = false
+has_long_key Files = false
 has_long_key Reopen = false
 
 abbrev pub has_long_value : Command → Bool
@@ -112,6 +119,8 @@ has_long_value (Batch os) = list_any puts_long_value os
 has_long_value (Get key) = false
 has_long_value (Scan from to) = false
 has_long_value Sync = false
+has_long_value Flush = false
+has_long_value Files = false
 has_long_value Reopen = false
 
 -- the limit on keys, and then that on values

@@ -80,6 +80,10 @@ pub enum Command {
     },
     /// `sync`: all accepted batches are durable.
     Sync,
+    /// `flush`: no entry is left in memory.
+    Flush,
+    /// `files`: the tables and the blob files are told.
+    Files,
     /// `reopen`: the store is opened anew.
     Reopen,
 }

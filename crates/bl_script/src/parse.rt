@@ -154,6 +154,10 @@ fn command_alone(verb: &[u8]) -> Option<Command>
 {
     if verb == b"sync".as_slice() {
         Some(Command::Sync)
+    } else if verb == b"flush".as_slice() {
+        Some(Command::Flush)
+    } else if verb == b"files".as_slice() {
+        Some(Command::Files)
     } else if verb == b"reopen".as_slice() {
         Some(Command::Reopen)
     } else {
@@ -288,6 +292,8 @@ fn has_long_key(command: &Command) -> bool
         Command::Batch { operations } => some_long_key(operations.as_slice()),
         Command::Scan { from, to } => is_long_bound(from) || is_long_bound(to),
         Command::Sync => false,
+        Command::Flush => false,
+        Command::Files => false,
         Command::Reopen => false,
     }
 }
@@ -302,6 +308,8 @@ fn has_long_value(command: &Command) -> bool
         Command::Get { key: _ } => false,
         Command::Scan { from: _, to: _ } => false,
         Command::Sync => false,
+        Command::Flush => false,
+        Command::Files => false,
         Command::Reopen => false,
     }
 }

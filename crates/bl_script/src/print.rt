@@ -2,10 +2,11 @@
 
 ghost use Rattle.std.specs.Prelude.{◌≡◌, ◌++◌, codes, Option, IfOk, OnOk, string_bytes};
 ghost use Rattle.std.specs.Option.{option_copied};
-ghost use Rattle.bl_script.specs.Printing.{escaped, value_line, pair_line, refusal_line};
+ghost use Rattle.bl_script.specs.Printing.{escaped, value_line, pair_line, table_line, blob_line, refusal_line};
 
 use crate::command::Refusal;
 use crate::error::ScriptErr;
+use crate::reply::{BlobLine, TableLine};
 use percent_encoding::{AsciiSet, CONTROLS, ascii_set, percent_encode};
 use std::alloc::Global;
 
@@ -49,6 +50,43 @@ pub fn append_pair(out: &mut String, key: &[u8], value: &[u8]) -> Result<(), Scr
     out.push_str(" =")?;
     put_escaped(out, value)?;
     out.push_str("\n")?;
+    Ok(())
+}
+
+/// One of the replies to `files` follows: `table LEVEL NUMBER SIZE OLDEST`.
+///
+/// Errors: `OutOfMemory` alone; what then follows in `out` is not said.
+pub fn append_table(out: &mut String, table: &TableLine) -> Result<(), ScriptErr>
+    ensures { OnOk result (string_bytes out.new ≡ string_bytes out.old ++ table_line table.now) }
+{
+    let TableLine {
+        level,
+        number,
+        size,
+        oldest,
+    } = *table;
+    writeln!(out, "table {level} {number} {size} {oldest}")?;
+    Ok(())
+}
+
+/// One of the replies to `files` follows: `blob NUMBER total C B garbage C B linked L`.
+///
+/// Errors: `OutOfMemory` alone; what then follows in `out` is not said.
+pub fn append_blob(out: &mut String, blob: &BlobLine) -> Result<(), ScriptErr>
+    ensures { OnOk result (string_bytes out.new ≡ string_bytes out.old ++ blob_line blob.now) }
+{
+    let BlobLine {
+        number,
+        count,
+        bytes,
+        garbage_count,
+        garbage_bytes,
+        linked,
+    } = *blob;
+    writeln!(
+        out,
+        "blob {number} total {count} {bytes} garbage {garbage_count} {garbage_bytes} linked {linked}"
+    )?;
     Ok(())
 }
 

@@ -1,0 +1,32 @@
+//! Laws of the machine and of its histories.
+
+ghost use Rattle.bl_machine.specs.Laws.{AllAreTold, BegunAreWritten, FrontsGoOn, LinesGoOn, MapsFollowWrites, MoreLinesKeepSynced, MoreToldMoreSynced, OthersKeepFiles, SyncedHaveBegun, ToldDecides};
+
+/// From each state each line has a reply and a next state, and so has each script: what was told so far is always a front of
+/// the replies to the whole of it.
+pub fn the_machine_is_never_stuck()
+    ensures line { LinesGoOn }
+    ensures script { FrontsGoOn }
+{}
+
+/// The map after some lines is that after all that they wrote, and only some lines may change the files.
+pub fn lines_change_what_they_say()
+    ensures maps { MapsFollowWrites }
+    ensures files { OthersKeepFiles }
+{}
+
+/// What is known to be synced has begun, and no more begins than is written. Neither falls as more is told. Once all is told,
+/// all has begun.
+pub fn acknowledged_writes_have_begun()
+    ensures synced { SyncedHaveBegun }
+    ensures begun { BegunAreWritten }
+    ensures more { MoreToldMoreSynced }
+    ensures all { AllAreTold }
+{}
+
+/// Which writes are synced and which have begun is decided by what was told: lines that were not reached change nothing of it,
+/// nor does another history of the same lines that begins by telling the same.
+pub fn told_replies_decide()
+    ensures lines { MoreLinesKeepSynced }
+    ensures history { ToldDecides }
+{}
