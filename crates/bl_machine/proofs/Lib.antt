@@ -1,0 +1,4 @@
+pub mod HistoryLemmas
+pub mod SyncedLemmas
+pub mod LineLemmas
+pub mod ToldLemmas

@@ -8,7 +8,7 @@ use Rattle.bl_script.specs.declared.command.Parsed.TheVariants.{Nothing, Refused
 use Rattle.bl_machine.specs.Writes.{after_writes}
 use Rattle.bl_machine.specs.State.{State, IsInOrder}
 use Rattle.bl_machine.specs.Step.{Line, Step}
-use Rattle.bl_machine.specs.History.{Runs, orders_of, told_by, written_by, IsHistory, IsFront}
+use Rattle.bl_machine.specs.History.{Runs, told_by, written_by, IsHistory, IsFront}
 use Rattle.bl_machine.specs.Synced.{before_sync, synced, begun}
 
 -- ---- the machine is never stuck

@@ -20,7 +20,7 @@ use Rattle.bl_machine.specs.State.{State, IsInOrder}
 
 -- ---- what is written
 
--- what a command writes, if it writes: the state in which it is obeyed may have a part in it
+-- what a command writes in a state, if it writes
 abbrev pub written : State → Command → List Write
 written s (command.Put key value) = (put_of key value ∷ []) ∷ []
 written s (command.Del key) = (deletion_of key ∷ []) ∷ []
@@ -32,7 +32,7 @@ written s command.Flush = []
 written s command.Files = []
 written s command.Reopen = []
 
--- a blank line, a comment and a line that is refused write nothing
+-- the same of a line: a blank line, a comment and a line that is refused write nothing
 abbrev pub writes_of : State → Parsed → List Write
 writes_of s Nothing = []
 writes_of s (Refused why) = []

@@ -1,5 +1,5 @@
 -- What the lines of a script write.
-use Rattle.std.specs.Prelude.{ℕ, ◌+◌, List, [], ◌∷◌, length, map, sum_by, Option, None, Some}
+use Rattle.std.specs.Prelude.{ℕ, ◌+◌, List, [], ◌∷◌, length, sum_by, Option, None, Some}
 use Rattle.bl_entry.specs.Batches.{put_of, deletion_of}
 use Rattle.bl_entry.specs.Revisions.{Map, after_operations}
 use Rattle.bl_entry.specs.declared.batch.Operation.{Operation}
