@@ -25,6 +25,8 @@ silent_writes (Go (command.Batch operations)) m none = cc none
 silent_writes (Go (command.Get key)) m none = refl
 silent_writes (Go (command.Scan from to)) m none = refl
 silent_writes (Go command.Sync) m none = refl
+silent_writes (Go command.Flush) m none = refl
+silent_writes (Go command.Files) m none = refl
 silent_writes (Go command.Reopen) m none = refl
 
 silent_opens : (order : Parsed) (m : Map) → reply_of order m ≡ [] → reopens order ≡ 0
@@ -36,6 +38,8 @@ silent_opens (Go (command.Batch operations)) m none = refl
 silent_opens (Go (command.Get key)) m none = refl
 silent_opens (Go (command.Scan from to)) m none = refl
 silent_opens (Go command.Sync) m none = refl
+silent_opens (Go command.Flush) m none = refl
+silent_opens (Go command.Files) m none = refl
 silent_opens (Go command.Reopen) m none = cc none
 
 -- these lines take no sequence and no number

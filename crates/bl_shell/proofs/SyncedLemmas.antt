@@ -37,6 +37,8 @@ says (Go (command.Batch operations)) m is none = cc is
 says (Go (command.Get key)) m is none = cc is
 says (Go (command.Scan from to)) m is none = cc is
 says (Go command.Sync) m is none = cc none
+says (Go command.Flush) m is none = cc is
+says (Go command.Files) m is none = cc is
 says (Go command.Reopen) m is none = cc none
 
 -- all lines whose replies were told, and of the others those that the further bytes have whole

@@ -8,6 +8,7 @@ use Rattle.bl_script.specs.declared.command.Operation.{Operation as Ordered}
 use Rattle.bl_script.specs.declared.command.Operation.TheVariants as ordered
 use Rattle.bl_script.specs.declared.command.Command.{Command}
 use Rattle.bl_script.specs.declared.command.Command.TheVariants as command
+use Rattle.bl_script.specs.declared.command.Refusal.TheVariants.{Syntax}
 use Rattle.bl_script.specs.declared.command.Parsed.{Parsed}
 use Rattle.bl_script.specs.declared.command.Parsed.TheVariants.{Nothing, Refused, Go}
 use Rattle.bl_script.specs.Lines.{lines, whole_lines}
@@ -35,9 +36,11 @@ written (command.Batch operations) = map operation operations ∷ []
 written (command.Get key) = []
 written (command.Scan from to) = []
 written command.Sync = []
+written command.Flush = []
+written command.Files = []
 written command.Reopen = []
 
--- what it tells
+-- what it tells; `flush` and `files` are not built yet
 abbrev pub reply : Command → Map → List ℕ
 reply (command.Put key value) m = ok_line
 reply (command.Del key) m = ok_line
@@ -45,6 +48,8 @@ reply (command.Batch operations) m = ok_line
 reply (command.Get key) m = value_line (get m key)
 reply (command.Scan from to) m = flat_map (λ p. pair_line p.0 p.1) (pairs_between from to m) ++ end_line
 reply command.Sync m = ok_line
+reply command.Flush m = refusal_line Syntax
+reply command.Files m = refusal_line Syntax
 reply command.Reopen m = ok_line
 
 -- the same of an order: a blank line and a comment tell nothing, and a refusal is a reply and changes nothing
@@ -122,6 +127,8 @@ reopens (Go (command.Batch operations)) = 0
 reopens (Go (command.Get key)) = 0
 reopens (Go (command.Scan from to)) = 0
 reopens (Go command.Sync) = 0
+reopens (Go command.Flush) = 0
+reopens (Go command.Files) = 0
 
 unfoldable pub reopens_in : List Line → ℕ
 reopens_in [] = 0

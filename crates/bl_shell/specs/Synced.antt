@@ -20,6 +20,8 @@ is_syncing (command.Del key) = false
 is_syncing (command.Batch operations) = false
 is_syncing (command.Get key) = false
 is_syncing (command.Scan from to) = false
+is_syncing command.Flush = false
+is_syncing command.Files = false
 
 abbrev pub syncs : Parsed → Bool
 syncs Nothing = false

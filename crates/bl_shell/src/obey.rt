@@ -20,7 +20,7 @@ use crate::batch::{batch_of, batch_of_del, batch_of_put};
 use crate::scan::tell_pairs;
 use crate::stop::Stop;
 use bl_entry::Batch;
-use bl_script::{Command, Parsed, print_refusal, print_value};
+use bl_script::{Command, Parsed, Refusal, print_refusal, print_value};
 use bl_site::Site;
 use bl_store::{Store, batches_are_once, cuts_stand, damaged_do_not_stand, stores_stand};
 use std::alloc::Global;
@@ -175,6 +175,8 @@ fn do_command<S: Site>(
         Command::Scan { from, to } => { tell_pairs(store, alloc, from.as_ref(), to.as_ref(), site) }
         Command::Sync => do_sync(store, site),
         Command::Reopen => do_reopen(store, alloc, site),
+        Command::Flush => do_tell(store, print_refusal(Refusal::Syntax), site),
+        Command::Files => do_tell(store, print_refusal(Refusal::Syntax), site),
     }
 }
 

@@ -1,7 +1,7 @@
 use Rattle.std.proofs.Common.{◌≡◌, ◌+◌, ◌^◌, ◌≤◌, length, arith, ◌++◌, ◌∙◌, ap, sym, refl, rules, inl, inr}
 use Rattle.std.specs.Option.{option_copied}
 use Rattle.bl_site.proofs.Moments.{widened}
-use Rattle.bl_script.specs.declared.command.Command.TheVariants.{Put, Del, Batch, Get, Scan, Sync}
+use Rattle.bl_script.specs.declared.command.Command.TheVariants.{Put, Del, Batch, Get, Scan, Sync, Flush, Files}
 use Rattle.bl_script.specs.declared.command.Parsed.TheVariants.{Go}
 use Rattle.bl_shell.specs.Carried.{IsWrite, IsTold}
 use Rattle.bl_shell.specs.Machine.{reply}
@@ -156,3 +156,27 @@ returns-in_ok-batch-in-Batch-clause-full g c = λ shown limit is.
     let full = c.do_write-in-Batch.ensures.full shown limit is in
     let passed : 2 ^ 56 ≤ c.args.store.now.last + length c.in_ok-batch-in-Batch.batch = omega (arith, full.0, full.1) in
     rw c.in-Batch.is (inl (c.in_ok-batch-in-Batch.batch, (w.writes, full.0, passed)), full.2)
+
+pub returns-in-Flush-clause-room : goal.returns-in-Flush-clause-room
+returns-in-Flush-clause-room g c = λ shown.
+    let t = c.requires.there shown in
+    rw c.in-Flush.is (on_any_err c.do_tell-in-Flush.result _ (inr (quiet_room (Go Flush) c.args.store.now t.0 t.1.0 _ refl refl t.1.1)))
+
+pub returns-in-Flush-clause-cuts : goal.returns-in-Flush-clause-cuts
+returns-in-Flush-clause-cuts g c = λ shown certain batches least s.
+    let store = c.args.store.now in
+    let t : IsTold (Go Flush) store.now c.print_refusal.result.now = record { writes = refl; tells = search rules; opens = refl; no_sync = refl } in
+    rw c.in-Flush.is (widened g.S.Site.clock g.S.Site.left_since c.args.site.now c.do_tell-in-Flush.new.site _ _
+    (λ cut k. cut_only_told c.cuts_stand.ensures (Go Flush) store batches least _ _ _ cut t s k) (c.do_tell-in-Flush.ensures.cuts shown certain))
+
+pub returns-in-Files-clause-room : goal.returns-in-Files-clause-room
+returns-in-Files-clause-room g c = λ shown.
+    let t = c.requires.there shown in
+    rw c.in-Files.is (on_any_err c.do_tell-in-Files.result _ (inr (quiet_room (Go Files) c.args.store.now t.0 t.1.0 _ refl refl t.1.1)))
+
+pub returns-in-Files-clause-cuts : goal.returns-in-Files-clause-cuts
+returns-in-Files-clause-cuts g c = λ shown certain batches least s.
+    let store = c.args.store.now in
+    let t : IsTold (Go Files) store.now c.print_refusal-in-Files.result.now = record { writes = refl; tells = search rules; opens = refl; no_sync = refl } in
+    rw c.in-Files.is (widened g.S.Site.clock g.S.Site.left_since c.args.site.now c.do_tell-in-Files.new.site _ _
+    (λ cut k. cut_only_told c.cuts_stand.ensures (Go Files) store batches least _ _ _ cut t s k) (c.do_tell-in-Files.ensures.cuts shown certain))
