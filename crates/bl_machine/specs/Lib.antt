@@ -4,3 +4,4 @@ pub mod Step
 pub mod History
 pub mod Synced
 pub mod Laws
+pub mod Rows

@@ -1,6 +1,7 @@
 //! Laws of the machine and of its histories.
 
 ghost use Rattle.bl_machine.specs.Laws.{AllAreTold, BegunAreWritten, FrontsGoOn, LinesGoOn, MapsFollowWrites, MoreLinesKeepSynced, MoreToldMoreSynced, OthersKeepFiles, SyncedHaveBegun, ToldDecides};
+ghost use Rattle.bl_machine.specs.Rows.{EmptyIsRead, FlushEmpties, FlushedIsListed, InlineIsListed, NoneAreListed, PutIsRead, SecondPutSwitches};
 
 /// From each state each line has a reply and a next state, and so has each script: what was told so far is always a front of
 /// the replies to the whole of it.
@@ -29,4 +30,20 @@ pub fn acknowledged_writes_have_begun()
 pub fn told_replies_decide()
     ensures lines { MoreLinesKeepSynced }
     ensures history { ToldDecides }
+{}
+
+/// What some scripts tell: a put that is read again, the files of one flushed put with and without a blob file, and those of a
+/// store that has none.
+pub fn scripts_tell_the_rows()
+    ensures read { PutIsRead }
+    ensures flushed { FlushedIsListed }
+    ensures inline { InlineIsListed }
+    ensures none { NoneAreListed }
+    ensures empty { EmptyIsRead }
+{}
+
+/// When writes switch memories, and that a flush leaves none that waits.
+pub fn memories_are_switched()
+    ensures switches { SecondPutSwitches }
+    ensures empties { FlushEmpties }
 {}
