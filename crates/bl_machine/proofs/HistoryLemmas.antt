@@ -59,6 +59,14 @@ pub after_one : (w : Write) (m : Map) → after_writes (w ∷ []) m ≡ after_op
 unfolding after_writes
 after_one w m = refl
 
+-- ---- states
+
+-- states are the same where their fields are
+pub same_state : (s t : State) → s.now ≡ t.now → s.listing ≡ t.listing → s.waits ≡ t.waits → s.runs ≡ t.runs → s.buffered ≡ t.buffered → s ≡ t
+same_state s t now listing waits runs buffered =
+    ap (λ x. record s { now = x }) now ∙ ap (λ x. record s { now = t.now; listing = x }) listing ∙ ap (λ x. record s { now = t.now; listing = t.listing; waits = x }) waits
+    ∙ ap (λ x. record t { runs = x; buffered = s.buffered }) runs ∙ ap (λ x. record t { buffered = x }) buffered
+
 -- ---- a map follows what is written
 
 obeyed_map : (o : Values) (old new : State) (order : Parsed) (told : List ℕ) → Obeys o order old told new → new.now ≡ after_writes (writes_of old order) old.now

@@ -1,3 +1,4 @@
+pub mod WriteLemmas
 pub mod HistoryLemmas
 pub mod SyncedLemmas
 pub mod LineLemmas

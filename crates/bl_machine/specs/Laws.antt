@@ -1,11 +1,12 @@
 -- Laws of the machine and of its histories.
-use Rattle.std.specs.Prelude.{◌≡◌, ℕ, ◌≤◌, Bool, true, false, List, ◌++◌, length}
+use Rattle.std.specs.Prelude.{◌≡◌, ℕ, ◌+◌, ◌≤◌, Bool, true, false, List, ◌++◌, length}
+use Rattle.bl_entry.specs.Revisions.{Revision, Map, revisions_of, IsMapAt, AreUpTo}
 use Rattle.bl_edit.specs.Options.{Values}
 use Rattle.bl_script.specs.declared.command.Command.{Command}
 use Rattle.bl_script.specs.declared.command.Command.TheVariants as command
 use Rattle.bl_script.specs.declared.command.Parsed.{Parsed}
 use Rattle.bl_script.specs.declared.command.Parsed.TheVariants.{Nothing, Refused, Go}
-use Rattle.bl_machine.specs.Writes.{after_writes}
+use Rattle.bl_machine.specs.Writes.{Write, after_writes, operations_in, numbered}
 use Rattle.bl_machine.specs.State.{State, IsInOrder}
 use Rattle.bl_machine.specs.Step.{Line, Step}
 use Rattle.bl_machine.specs.History.{Runs, told_by, written_by, IsHistory, IsFront}
@@ -38,6 +39,12 @@ FrontsGoOn = (o : Values) (first : State) (given : List Parsed) (front : List Li
 -- The map is that after all that was written.
 abbrev pub MapsFollowWrites : Type 0
 MapsFollowWrites = (o : Values) (first : State) (history : List Line) (last : State) → Runs o first history last → last.now ≡ after_writes (written_by history) first.now
+
+-- The batches of some writes, behind the last sequence, make the map after these writes of the one that was there.
+abbrev pub WritesMakeMap : Type 0
+WritesMakeMap = (es : List Revision) (last : ℕ) (writes : List Write) (m : Map) → AreUpTo last es → IsMapAt es last m
+    → IsMapAt (es ++ revisions_of (numbered (last + 1) writes)) (last + operations_in writes) (after_writes writes m)
+    × AreUpTo (last + operations_in writes) (es ++ revisions_of (numbered (last + 1) writes))
 
 -- the lines that may change the files
 abbrev pub changes_files : Command → Bool

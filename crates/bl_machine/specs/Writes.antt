@@ -1,6 +1,6 @@
 -- What the lines of a script write.
 use Rattle.std.specs.Prelude.{ℕ, ◌+◌, List, [], ◌∷◌, length, sum_by, Option, None, Some}
-use Rattle.bl_entry.specs.Batches.{put_of, deletion_of}
+use Rattle.bl_entry.specs.Batches.{Batch, put_of, deletion_of}
 use Rattle.bl_entry.specs.Revisions.{Map, after_operations}
 use Rattle.bl_entry.specs.declared.batch.Operation.{Operation}
 use Rattle.bl_script.specs.declared.command.Operation.{Operation as Ordered}
@@ -24,6 +24,11 @@ after_writes (operations ∷ more) m = after_writes more (after_operations opera
 unfoldable pub operations_in : List Write → ℕ
 operations_in [] = 0
 operations_in (operations ∷ more) = length operations + operations_in more
+
+-- the batches of some writes: each operation takes a sequence, the first one this
+unfoldable pub numbered : ℕ → List Write → List Batch
+numbered first [] = []
+numbered first (operations ∷ more) = record { first = first; operations = operations } ∷ numbered (first + length operations) more
 
 abbrev pub value_size : Option (List ℕ) → ℕ
 value_size None = 0

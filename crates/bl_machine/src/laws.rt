@@ -1,7 +1,9 @@
 //! Laws of the machine and of its histories.
 
-ghost use Rattle.bl_machine.specs.Laws.{AllAreTold, BegunAreWritten, FrontsGoOn, LinesGoOn, MapsFollowWrites, MoreLinesKeepSynced, MoreToldMoreSynced, OthersKeepFiles, SyncedHaveBegun, ToldDecides};
+ghost use Rattle.bl_machine.specs.Laws.{AllAreTold, BegunAreWritten, FrontsGoOn, LinesGoOn, MapsFollowWrites, MoreLinesKeepSynced, MoreToldMoreSynced, OthersKeepFiles, SyncedHaveBegun, ToldDecides, WritesMakeMap};
 ghost use Rattle.bl_machine.specs.Rows.{EmptyIsRead, FlushEmpties, FlushedIsListed, InlineIsListed, NoneAreListed, PutIsRead, SecondPutSwitches};
+
+use bl_entry::operations_change_the_map;
 
 /// From each state each line has a reply and a next state, and so has each script: what was told so far is always a front of
 /// the replies to the whole of it.
@@ -9,6 +11,13 @@ pub fn the_machine_is_never_stuck()
     ensures line { LinesGoOn }
     ensures script { FrontsGoOn }
 {}
+
+/// The batches of some writes make the map after them: what the machine's map is to a folder of batches.
+pub fn writes_make_the_map()
+    ensures { WritesMakeMap }
+{
+    operations_change_the_map();
+}
 
 /// The map after some lines is that after all that they wrote, and only some lines may change the files.
 pub fn lines_change_what_they_say()
