@@ -91,8 +91,8 @@ MayClear old new = new ≡ true → old ≡ true
 abbrev pub switches : Values → State → Bool
 switches o s = nat_le o.write_buffer s.buffered
 
--- A write: the map has its operations, and its bytes are counted, from 0 on where it switches memories. Then a memory waits. A job may
--- be done, and the files may be others.
+-- A write: the map is that after its operations, and its bytes are counted. Where it switches memories, a memory waits, and the count begins
+-- at 0. A job may be done, and the files may be others.
 pub record Writes (o : Values) (operations : Write) (old : State) (told : List ℕ) (new : State) : Type 0 where
   pub told_is : told ≡ ok_line
   pub job : MayClear old.runs new.runs

@@ -34,8 +34,9 @@ pub fn acknowledged_writes_have_begun()
     ensures all { AllAreTold }
 {}
 
-/// Which writes are synced and which have begun is decided by what was told: lines that were not reached change nothing of it,
-/// nor does another history of the same lines that begins by telling the same.
+/// Which writes are synced and which have begun is decided by what was told: another history of the same lines that begins by
+/// telling the same has as many of both. Lines behind those whose replies were told change nothing of what is synced, and take
+/// back nothing that has begun.
 pub fn told_replies_decide()
     ensures lines { MoreLinesKeepSynced }
     ensures history { ToldDecides }
