@@ -1,6 +1,9 @@
 //! Each public call once, with ample memory.
 
-use crate::{Command, Parsed, Refusal, append_pair, parse_line, print_refusal, print_value};
+use crate::{
+    BlobLine, Command, Parsed, Refusal, TableLine, append_blob, append_pair, append_table,
+    parse_line, print_refusal, print_value,
+};
 use std::test::Fail;
 
 fn puts(parsed: &Parsed, key: &[u8], value: &[u8]) -> bool {
@@ -39,6 +42,29 @@ fn lines_are_parsed(rt: HostRuntime) -> Result<(), Fail> {
 }
 
 #[test]
+fn flush_and_files_are_parsed(rt: HostRuntime) -> Result<(), Fail> {
+    assert!(rt;
+        matches!(
+            parse_line(rt.alloc(), b"flush")?,
+            Parsed::Go(Command::Flush)
+        )
+    );
+    assert!(rt;
+        matches!(
+            parse_line(rt.alloc(), b"files")?,
+            Parsed::Go(Command::Files)
+        )
+    );
+    assert!(rt;
+        matches!(
+            parse_line(rt.alloc(), b"flush a")?,
+            Parsed::Refused(Refusal::Syntax)
+        )
+    );
+    Ok(())
+}
+
+#[test]
 fn keys_have_a_limit(rt: HostRuntime) -> Result<(), Fail> {
     for (verb, size, want) in [
         ("get ", 65_535, None),
@@ -68,5 +94,31 @@ fn replies_are_printed(rt: HostRuntime) -> Result<(), Fail> {
     append_pair(&mut pairs, b"a", b"\xff")?;
     assert_eq!(rt; pairs.as_str(), "pair 1 =2\npair a =%FF\n");
     assert_eq!(rt; print_refusal(Refusal::Key), b"refused key\n".as_slice());
+    Ok(())
+}
+
+#[test]
+fn files_are_printed(rt: HostRuntime) -> Result<(), Fail> {
+    let mut lines = String::new(rt.alloc());
+    let table = TableLine {
+        level: 0,
+        number: 4,
+        size: 118,
+        oldest: 5,
+    };
+    append_table(&mut lines, &table)?;
+    let blob = BlobLine {
+        number: 5,
+        count: 3,
+        bytes: 108,
+        garbage_count: 2,
+        garbage_bytes: 71,
+        linked: 1,
+    };
+    append_blob(&mut lines, &blob)?;
+    assert_eq!(rt;
+        lines.as_str(),
+        "table 0 4 118 5\nblob 5 total 3 108 garbage 2 71 linked 1\n"
+    );
     Ok(())
 }
