@@ -67,8 +67,8 @@ impl Version {
         })
     }
 
-    /// All tables, by level and then by number.
-    pub(crate) fn all_tables(&self) -> &[NewTable]
+    /// All tables, by level and then by number; and what holds of each version.
+    pub fn all_tables(&self) -> &[NewTable]
         ensures value { result.now ≡ self.now.tables }
         ensures version { IsVersion self.now }
     {
