@@ -1,0 +1,5 @@
+pub mod Causes
+pub mod Laws
+pub mod Reading
+pub mod RunLaws
+pub mod Runs
