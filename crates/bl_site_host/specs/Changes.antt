@@ -1,6 +1,8 @@
 -- What the calls change of the files and names of a folder.
 use Rattle.std.specs.Prelude.{◌≡◌, ◌⊎◌, ℕ, List, [], ◌∷◌, Result, Ok, Err}
 use Rattle.bl_site.specs.Disk.{Name}
+use Rattle.bl_site.specs.declared.site.SiteErr.{SiteErr}
+use Rattle.bl_site.specs.declared.site.SiteErr.TheVariants.{OutOfMemory}
 use Rattle.bl_site_host.specs.Events.{Event, Made, Wrote, Renamed, Removed}
 use Rattle.bl_site_host.specs.declared.faults.Fault.{Fault}
 use Rattle.bl_site_host.specs.declared.faults.Fault.TheVariants.{Disk, Memory}
@@ -27,6 +29,12 @@ abbrev pub Changes : {T : Type 0} → (Event → Type 0) → Result T Fault → 
 Changes meant (Ok _) old new = ChangesOne meant old new
 Changes meant (Err Memory) old new = ChangesNone old new
 Changes meant (Err (Disk _)) old new = ChangesNone old new ⊎ ChangesOne meant old new
+
+-- the same of a call of the site, whose answer does not have the system's error
+abbrev pub SiteChanges : {T : Type 0} → (Event → Type 0) → Result T SiteErr → (old new : List Event) → Type 0
+SiteChanges meant (Ok _) old new = ChangesOne meant old new
+SiteChanges meant (Err OutOfMemory) old new = ChangesNone old new
+SiteChanges meant (Err _) old new = ChangesNone old new ⊎ ChangesOne meant old new
 
 -- makes an empty file of this name
 abbrev pub IsMaking : Name → Event → Type 0

@@ -24,7 +24,8 @@ pub(crate) struct Folder<S: System + Drop> {
 
 impl<S: System + Drop> Folder<S> {
     pub(crate) fn new(alloc: Global, system: S) -> Folder<S>
-        ensures { S.calls system ≡ [] → IsSound S.id (S.calls result.system) result.handles.open.items }
+        ensures system { result.system ≡ system }
+        ensures sound { S.calls system ≡ [] → IsSound S.id (S.calls result.system) result.handles.open.items }
     {
         Folder {
             system,

@@ -9,11 +9,11 @@ use std::io::{self, ErrorKind, Write};
 use std::test::Fail;
 
 #[derive(Drop)]
-struct Held {
-    bytes: Vec<u8>,
+pub(crate) struct Held {
+    pub(crate) bytes: Vec<u8>,
     // So many of the bytes are held back no longer.
-    flushed: usize,
-    fails: bool,
+    pub(crate) flushed: usize,
+    pub(crate) fails: bool,
 }
 
 impl Write for Held {

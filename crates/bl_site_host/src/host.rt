@@ -1,19 +1,21 @@
-//! The calls of the real system. This is the trusted edge: it shows nothing.
-ghost use Rattle.std.specs.Prelude.{[]};
+//! The calls of the real system, and standard output. This is the trusted edge: it shows nothing.
+ghost use Rattle.std.specs.Prelude.{[], None};
 
 use crate::moving::{read_full, write_whole};
+use crate::output::Output;
 use crate::system::{Found, Listed, System};
 use std::alloc::Global;
 use std::fs::{self, OpenFile, OpenOptions, ReadDir};
-use std::io::{self, ErrorKind, Seek, SeekFrom, Write};
+use std::io::{self, ErrorKind, Print, Seek, SeekFrom, Write};
 use std::rt::Files;
 
 // Where Linux tells the limits of this process.
 const LIMITS: &str = "/proc/self/limits";
 
+/// The current folder.
 #[derive(Drop)]
-pub(crate) struct Host<R: Files + AllocGlobal + Clone + Drop> {
-    pub(crate) rt: R,
+pub struct Host<R: Files + AllocGlobal + Clone + Drop> {
+    rt: R,
     // How long a file may get. A write behind it would end the process by a signal.
     limit: u64,
 }
@@ -135,5 +137,35 @@ impl<R: Files + AllocGlobal + Clone + Drop> System for Host<R> {
             Some(Err(e)) if e.kind() == ErrorKind::InvalidFilename => Ok(Listed::Other),
             Some(Err(e)) => Err(e),
         }
+    }
+}
+
+/// Standard output. It holds no bytes back: a write is one of the system.
+#[derive(Drop)]
+pub struct Standard<P: Print + Drop> {
+    to: P,
+}
+
+impl<P: Print + Drop> Standard<P> {
+    pub(crate) fn new(to: P) -> Standard<P> {
+        Standard { to }
+    }
+}
+
+impl<P: Print + Drop> Write for Standard<P> {
+    fn write(&mut self, buf: &[u8]) -> io::Result<usize> {
+        io::writer(&self.to).write(buf)
+    }
+
+    fn flush(&mut self) -> io::Result<()> {
+        io::writer(&self.to).flush()
+    }
+}
+
+impl<P: Print + Drop> Output for Standard<P> {
+    ghost flushed = { λ _. None };
+
+    fn flush_all(&mut self) -> io::Result<()> {
+        self.flush()
     }
 }

@@ -1,11 +1,11 @@
 //! The last failure, of a folder's calls and of the output's.
-ghost use Rattle.std.specs.Prelude.{◌≡◌, ◌≢◌, ◌≤◌, ◌∷◌, [], List, Option, None, Some, Ok, true, length, take, map, IfOk, IfErr, IfSome, OnOk};
+ghost use Rattle.std.specs.Prelude.{◌≡◌, ◌≢◌, ◌≤◌, ◌∷◌, [], ℕ, List, Option, None, Some, Ok, true, length, take, map, IfOk, IfErr, IfSome, IsErr, IsTrue, OnOk, OnErr};
 ghost use Rattle.std.specs.Option.{option_copied};
 ghost use Rattle.std.specs.String.{string_bytes};
 ghost use Rattle.std.specs.Io.KnownBytes.{Appends};
 ghost use Rattle.bl_site.specs.Disk.{Name};
-ghost use Rattle.bl_site_host.specs.Changes.{Changes, IsMaking, IsWriting, IsRenaming, IsRemoving};
-ghost use Rattle.bl_site_host.specs.Events.{Looked, Listing, Read, Wrote, SyncedFile, Renamed, Removed, IsNewest, IsOn, IsMade, IsOnDisk, files_of, found_of};
+ghost use Rattle.bl_site_host.specs.Changes.{ChangesNone, Changes, IsMaking, IsWriting, IsRenaming, IsRemoving};
+ghost use Rattle.bl_site_host.specs.Events.{Looked, Listing, Read, Wrote, SyncedFile, Renamed, Removed, IsNewest, IsOn, IsMade, IsOnDisk, StaysMarked, files_of, found_of};
 ghost use Rattle.bl_site_host.specs.declared.faults.Fault.TheVariants.{Memory};
 ghost use Rattle.bl_site_host.specs.Failures.{IsKept, IsPut};
 ghost use Rattle.bl_site_host.specs.Handles.{IsSound, StaysSound};
@@ -58,6 +58,7 @@ impl Failures {
     pub(crate) fn tell<W: Output>(&mut self, output: &mut W, bytes: &[u8]) -> Result<(), Fault>
         ensures all { OnOk result (Appends (W.contents output.old) (W.contents output.new) bytes.now) }
         ensures flushed { OnOk result (W.flushed output.new ≡ W.contents output.new) }
+        ensures front { OnErr result ((count : ℕ) × Appends (W.contents output.old) (W.contents output.new) (take count bytes.now)) }
         ensures disk { IfErr result (λ fault. fault ≢ Memory) }
         ensures kept { IsKept Asked.Tell [] result self.old.last self.new.last }
     {
@@ -76,7 +77,9 @@ pub(crate) struct Keeper<S: System + Drop> {
 
 impl<S: System + Drop> Keeper<S> {
     pub(crate) fn new(alloc: Global, system: S) -> Keeper<S>
-        ensures { result.failures.last ≡ None }
+        ensures last { result.failures.last ≡ None }
+        ensures system { result.folder.system ≡ system }
+        ensures sound { S.calls system ≡ [] → IsSound S.id (S.calls result.folder.system) result.folder.handles.open.items }
     {
         Keeper {
             folder: Folder::new(alloc, system),
@@ -86,7 +89,10 @@ impl<S: System + Drop> Keeper<S> {
 
     pub(crate) fn length(&mut self, name: &str) -> Result<Option<u64>, Fault>
         ensures seen { S.shows → IfOk result (λ length. S.calls self.new.folder.system ≡ Looked name.now (Some (found_of length)) ∷ S.calls self.old.folder.system) }
+        ensures changes { S.shows → ChangesNone (S.calls self.old.folder.system) (S.calls self.new.folder.system) }
         ensures sound { S.shows → StaysSound S.id (S.calls self.old.folder.system) self.old.folder.handles.open.items (S.calls self.new.folder.system) self.new.folder.handles.open.items }
+        ensures stays_lost { IsTrue self.old.folder.lost → IsTrue self.new.folder.lost }
+        ensures marked { S.shows → StaysMarked (S.calls self.old.folder.system) self.old.folder.lost (S.calls self.new.folder.system) self.new.folder.lost }
         ensures kept { IsKept Asked.Length name.now result self.old.failures.last self.new.failures.last }
     {
         let done = self.folder.length(name);
@@ -96,7 +102,10 @@ impl<S: System + Drop> Keeper<S> {
 
     pub(crate) fn names(&mut self, alloc: Global) -> Result<Vec<String>, Fault>
         ensures all { S.shows → IfOk result (λ names. (entries : List (Option Name)) × (S.calls self.new.folder.system ≡ Listing (Some entries) ∷ S.calls self.old.folder.system) × (map string_bytes names.items ≡ files_of entries)) }
+        ensures changes { S.shows → ChangesNone (S.calls self.old.folder.system) (S.calls self.new.folder.system) }
         ensures sound { S.shows → StaysSound S.id (S.calls self.old.folder.system) self.old.folder.handles.open.items (S.calls self.new.folder.system) self.new.folder.handles.open.items }
+        ensures stays_lost { IsTrue self.old.folder.lost → IsTrue self.new.folder.lost }
+        ensures marked { S.shows → StaysMarked (S.calls self.old.folder.system) self.old.folder.lost (S.calls self.new.folder.system) self.new.folder.lost }
         ensures kept { IsKept Asked.List [] result self.old.failures.last self.new.failures.last }
     {
         let done = self.folder.names(alloc);
@@ -114,7 +123,10 @@ impl<S: System + Drop> Keeper<S> {
         ensures bytes { S.shows → IsSound S.id (S.calls self.old.folder.system) self.old.folder.handles.open.items
             → IfOk result (λ r. IfSome r (λ count. IsOn name.now (λ file. Read file offset (length into.old) (Some (take count into.new))) (S.calls self.new.folder.system))) }
         ensures absent { S.shows → result ≡ Ok None → IsNewest (Looked name.now (Some Found.Nothing)) (S.calls self.new.folder.system) }
+        ensures changes { S.shows → ChangesNone (S.calls self.old.folder.system) (S.calls self.new.folder.system) }
         ensures sound { S.shows → StaysSound S.id (S.calls self.old.folder.system) self.old.folder.handles.open.items (S.calls self.new.folder.system) self.new.folder.handles.open.items }
+        ensures stays_lost { IsTrue self.old.folder.lost → IsTrue self.new.folder.lost }
+        ensures marked { S.shows → StaysMarked (S.calls self.old.folder.system) self.old.folder.lost (S.calls self.new.folder.system) self.new.folder.lost }
         ensures kept { IsKept Asked.Read name.now result self.old.failures.last self.new.failures.last }
     {
         let done = self.folder.read(name, offset, into);
@@ -123,9 +135,12 @@ impl<S: System + Drop> Keeper<S> {
     }
 
     pub(crate) fn create(&mut self, name: &str) -> Result<(), Fault>
+        ensures lost { IsTrue self.old.folder.lost → IsErr result }
         ensures made { S.shows → OnOk result (IsMade name.now (S.calls self.new.folder.system)) }
         ensures changes { S.shows → Changes (IsMaking name.now) result (S.calls self.old.folder.system) (S.calls self.new.folder.system) }
         ensures sound { S.shows → StaysSound S.id (S.calls self.old.folder.system) self.old.folder.handles.open.items (S.calls self.new.folder.system) self.new.folder.handles.open.items }
+        ensures stays_lost { IsTrue self.old.folder.lost → IsTrue self.new.folder.lost }
+        ensures marked { S.shows → StaysMarked (S.calls self.old.folder.system) self.old.folder.lost (S.calls self.new.folder.system) self.new.folder.lost }
         ensures kept { IsKept Asked.Create name.now result self.old.failures.last self.new.failures.last }
     {
         let done = self.folder.create(name);
@@ -138,6 +153,8 @@ impl<S: System + Drop> Keeper<S> {
             → OnOk result (IsOn name.now (λ file. Wrote file bytes.now true) (S.calls self.new.folder.system)) }
         ensures changes { S.shows → Changes (IsWriting bytes.now) result (S.calls self.old.folder.system) (S.calls self.new.folder.system) }
         ensures sound { S.shows → StaysSound S.id (S.calls self.old.folder.system) self.old.folder.handles.open.items (S.calls self.new.folder.system) self.new.folder.handles.open.items }
+        ensures stays_lost { IsTrue self.old.folder.lost → IsTrue self.new.folder.lost }
+        ensures marked { S.shows → StaysMarked (S.calls self.old.folder.system) self.old.folder.lost (S.calls self.new.folder.system) self.new.folder.lost }
         ensures kept { IsKept Asked.Append name.now result self.old.failures.last self.new.failures.last }
     {
         let done = self.folder.append(name, bytes);
@@ -146,9 +163,13 @@ impl<S: System + Drop> Keeper<S> {
     }
 
     pub(crate) fn sync(&mut self, name: &str) -> Result<(), Fault>
+        ensures lost { IsTrue self.old.folder.lost → IsErr result }
         ensures file { S.shows → IsSound S.id (S.calls self.old.folder.system) self.old.folder.handles.open.items
             → OnOk result (IsOn name.now (λ file. SyncedFile file true) (S.calls self.new.folder.system)) }
+        ensures changes { S.shows → ChangesNone (S.calls self.old.folder.system) (S.calls self.new.folder.system) }
         ensures sound { S.shows → StaysSound S.id (S.calls self.old.folder.system) self.old.folder.handles.open.items (S.calls self.new.folder.system) self.new.folder.handles.open.items }
+        ensures stays_lost { IsTrue self.old.folder.lost → IsTrue self.new.folder.lost }
+        ensures marked { S.shows → StaysMarked (S.calls self.old.folder.system) self.old.folder.lost (S.calls self.new.folder.system) self.new.folder.lost }
         ensures kept { IsKept Asked.Sync name.now result self.old.failures.last self.new.failures.last }
     {
         let done = self.folder.sync(name);
@@ -157,9 +178,12 @@ impl<S: System + Drop> Keeper<S> {
     }
 
     pub(crate) fn rename(&mut self, from: &str, to: &str) -> Result<(), Fault>
+        ensures lost { IsTrue self.old.folder.lost → IsErr result }
         ensures renamed { S.shows → OnOk result (IsOnDisk (Renamed from.now to.now true) (S.calls self.new.folder.system)) }
         ensures changes { S.shows → Changes (IsRenaming from.now to.now) result (S.calls self.old.folder.system) (S.calls self.new.folder.system) }
         ensures sound { S.shows → StaysSound S.id (S.calls self.old.folder.system) self.old.folder.handles.open.items (S.calls self.new.folder.system) self.new.folder.handles.open.items }
+        ensures stays_lost { IsTrue self.old.folder.lost → IsTrue self.new.folder.lost }
+        ensures marked { S.shows → StaysMarked (S.calls self.old.folder.system) self.old.folder.lost (S.calls self.new.folder.system) self.new.folder.lost }
         ensures kept { IsKept Asked.Rename from.now result self.old.failures.last self.new.failures.last }
     {
         let done = self.folder.rename(from, to);
@@ -168,9 +192,12 @@ impl<S: System + Drop> Keeper<S> {
     }
 
     pub(crate) fn remove(&mut self, name: &str) -> Result<(), Fault>
+        ensures lost { IsTrue self.old.folder.lost → IsErr result }
         ensures removed { S.shows → OnOk result (IsOnDisk (Removed name.now true) (S.calls self.new.folder.system)) }
         ensures changes { S.shows → Changes (IsRemoving name.now) result (S.calls self.old.folder.system) (S.calls self.new.folder.system) }
         ensures sound { S.shows → StaysSound S.id (S.calls self.old.folder.system) self.old.folder.handles.open.items (S.calls self.new.folder.system) self.new.folder.handles.open.items }
+        ensures stays_lost { IsTrue self.old.folder.lost → IsTrue self.new.folder.lost }
+        ensures marked { S.shows → StaysMarked (S.calls self.old.folder.system) self.old.folder.lost (S.calls self.new.folder.system) self.new.folder.lost }
         ensures kept { IsKept Asked.Remove name.now result self.old.failures.last self.new.failures.last }
     {
         let done = self.folder.remove(name);

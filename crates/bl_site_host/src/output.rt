@@ -1,12 +1,12 @@
 //! Where bytes are told.
-ghost use Rattle.std.specs.Prelude.{◌≡◌, ℕ, List, Option, None, take, OnOk, OnErr};
+ghost use Rattle.std.specs.Prelude.{◌≡◌, ℕ, List, Option, take, OnOk, OnErr};
 ghost use Rattle.std.specs.Io.KnownBytes.{Appends, Keeps};
 
 use crate::moving::write_whole;
-use std::io::{self, Print, Printer, Write};
+use std::io::{self, Write};
 
 /// A writer that may hold bytes back until it is asked to flush them. Its `contents` are the bytes that were handed to it.
-pub(crate) trait Output: Write {
+pub trait Output: Write {
     /// The bytes that are held back no longer, where they are known.
     ghost flushed: { Self → Option (List ℕ) };
 
@@ -14,15 +14,6 @@ pub(crate) trait Output: Write {
     fn flush_all(&mut self) -> io::Result<()>
         ensures bytes { Keeps (Self.contents self.old) (Self.contents self.new) }
         ensures all { OnOk result (flushed self.new ≡ Self.contents self.new) };
-}
-
-// Of standard output nothing is known. It holds no bytes back: a write is one of the system.
-impl<P: Print> Output for Printer<'_, P> {
-    ghost flushed = { λ _. None };
-
-    fn flush_all(&mut self) -> io::Result<()> {
-        self.flush()
-    }
 }
 
 // Writes all of the bytes, and lets go of all that were handed over; or fails and has written some first ones of them.

@@ -4,8 +4,11 @@ ghost use Rattle.std.specs.String.{string_bytes};
 ghost use Rattle.bl_site_host.specs.Events.{Looked, Listing, Opened, Made, Read, Wrote, SyncedFile, SyncedFolder, Renamed, Removed};
 ghost use Rattle.bl_site_host.specs.declared.recorder.Note.TheVariants as note;
 
+use crate::HostSite;
 use crate::folder::Folder;
+use crate::held::Held;
 use crate::system::{Found, Listed, System};
+use bl_site::Site;
 use std::alloc::Global;
 use std::io;
 use std::process::Abort;
@@ -196,5 +199,32 @@ fn calls_come_in_order(rt: HostRuntime) -> Result<(), Fail> {
     ];
     let found: Vec<(char, u64)> = folder.system.notes.iter().map(letter).collect(alloc)?;
     assert_eq!(rt; found.as_slice(), wanted.as_slice());
+    Ok(())
+}
+
+#[test]
+fn a_site_asks_its_folder_and_its_output(rt: HostRuntime) -> Result<(), Fail> {
+    let alloc = rt.alloc();
+    let recorder = Recorder {
+        rt: rt.clone()?,
+        notes: Vec::new(alloc),
+        opened: 0,
+    };
+    let held = Held {
+        bytes: Vec::new(alloc),
+        flushed: 0,
+        fails: false,
+    };
+    let mut site = HostSite::new(alloc, recorder, held);
+    let mut into = [0; 4];
+    assert_eq!(rt; site.len("a"), Ok(Some(0)));
+    assert_eq!(rt; site.read_at("a", 2, &mut into), Ok(Some(0)));
+    assert!(rt; site.list(alloc).is_ok());
+    assert_eq!(rt; site.tell(b"abc"), Ok(()));
+    let notes = &site.keeper.folder.system.notes;
+    let found: Vec<(char, u64)> = notes.iter().map(letter).collect(alloc)?;
+    let wanted = [('n', 0), ('r', 1), ('o', 1), ('l', 0), ('l', 0)];
+    assert_eq!(rt; found.as_slice(), wanted.as_slice());
+    assert_eq!(rt; site.output.flushed, 3);
     Ok(())
 }

@@ -9,7 +9,7 @@ use std::io;
 
 /// What stands under a name.
 #[derive(Clone, Copy, Debug, PartialEq, Eq)]
-pub(crate) enum Found {
+pub enum Found {
     /// No thing.
     Nothing,
     /// A regular file of this length in bytes.
@@ -20,7 +20,7 @@ pub(crate) enum Found {
 
 /// The next entry of a folder.
 #[derive(Drop)]
-pub(crate) enum Listed {
+pub enum Listed {
     /// A regular file with this name.
     File(String),
     /// Another thing, or a file whose name is not UTF-8 or that has just left.
@@ -31,7 +31,7 @@ pub(crate) enum Listed {
 
 /// The calls of the system that a folder stands on. They are the trusted part: of the real ones no clause says anything, so an
 /// implementation for them shows nothing, and does in each call no more than it must.
-pub(crate) trait System {
+pub trait System {
     type File: Drop;
 
     type Entries: Drop;

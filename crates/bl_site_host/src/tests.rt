@@ -133,7 +133,8 @@ fn a_source_gives_what_its_reader_gives(rt: HostRuntime) -> Result<(), Fail> {
 #[test]
 fn the_host_keeps_files(rt: HostRuntime) -> Result<(), Fail> {
     let alloc = rt.alloc();
-    let mut site = HostSite::start(rt);
+    let output = rt.stdout();
+    let mut site = HostSite::start(rt, output);
     site.create("bl_site_host_test_a").map_err(failed)?;
     site.append("bl_site_host_test_a", b"wx").map_err(failed)?;
     site.append("bl_site_host_test_a", b"yz").map_err(failed)?;
