@@ -1,18 +1,21 @@
 //! Logs whose reading ends before their bytes do.
-ghost use Rattle.std.specs.Prelude.{◌≡◌, ◌≢◌, ℕ, IfOk, IfSome, OnOk, MatchOption, map, string_bytes};
+ghost use Rattle.std.specs.Prelude.{◌≡◌, ◌≢◌, ℕ, IfOk, IfErr, IfSome, IsErrOf, OnOk, MatchOption, map, string_bytes};
 ghost use Rattle.std.specs.BTreeMap.{IsOrdered};
 ghost use Rattle.std.specs.Ordering.{nat_cmp};
 ghost use Rattle.bl_site.specs.Disk.{folder_of};
+ghost use Rattle.bl_site.specs.Causes.{Rose};
+ghost use Rattle.bl_site.specs.Quiet.{OnlyReads};
 ghost use Rattle.bl_names.specs.Names.{IsNameOf};
 ghost use Rattle.bl_names.specs.declared.name.FileName.TheVariants.{Log};
 ghost use Rattle.bl_main.specs.Ends.{EndsAt, Tells, TellsEach, word_of};
 ghost use Rattle.bl_main.specs.Logs.{AreLogsOf, TakesLog};
 
+use crate::error::LookErr;
 use bl_log::EndCause;
 use bl_names::{FileName, names_one, parse_name};
-use bl_records::{NextRecord, RecordErr, RecordReader};
-use bl_site::{Site, SiteErr};
-use std::alloc::{AllocError, AllocFailed, Global};
+use bl_records::{NextRecord, RecordReader};
+use bl_site::Site;
+use std::alloc::Global;
 use std::collections::BTreeMap;
 use std::fmt;
 
@@ -55,34 +58,6 @@ impl fmt::Display for EarlyEnd {
     }
 }
 
-/// The logs could not be looked through: the folder failed, or memory ran out.
-#[derive(Debug, Drop)]
-pub struct LookErr;
-
-impl From<AllocError> for LookErr {
-    fn from(_: AllocError) -> LookErr {
-        LookErr
-    }
-}
-
-impl<T: Drop> From<AllocFailed<T>> for LookErr {
-    fn from(_: AllocFailed<T>) -> LookErr {
-        LookErr
-    }
-}
-
-impl From<SiteErr> for LookErr {
-    fn from(_: SiteErr) -> LookErr {
-        LookErr
-    }
-}
-
-impl From<RecordErr> for LookErr {
-    fn from(_: RecordErr) -> LookErr {
-        LookErr
-    }
-}
-
 // Where and why the reading of this log ends, or `None` where it is not there.
 fn end_of<S: Site>(
     alloc: Global,
@@ -91,6 +66,8 @@ fn end_of<S: Site>(
 ) -> Result<Option<(u64, EndCause)>, LookErr>
     ensures ends { S.shows → IfOk result (λ end. MatchOption end (folder_of (S.disk site.old) name.now ≡ None) (λ it. EndsAt (folder_of (S.disk site.old) name.now) it.0 it.1)) }
     ensures stays { S.shows → S.disk site.new ≡ S.disk site.old }
+    ensures quiet { OnlyReads S.Site site.old site.new }
+    ensures disk { IsErrOf result LookErr.Disk → Rose (S.disk_faults site.old) (S.disk_faults site.new) }
 {
     let mut reader = RecordReader::open(alloc, String::from_str(alloc, name)?)?;
     'records: for _record in 0..u64::MAX {
@@ -100,13 +77,15 @@ fn end_of<S: Site>(
             NextRecord::Absent => return Ok(None),
         }
     }
-    Err(LookErr)
+    Err(LookErr::OutOfMemory)
 }
 
 // What is to be said of this log, if anything.
 fn early_end<S: Site>(alloc: Global, site: &mut S, name: &str) -> Result<Option<EarlyEnd>, LookErr>
     ensures tells { S.shows → IfOk result (λ end. Tells name.now (folder_of (S.disk site.old) name.now) end) }
     ensures stays { S.shows → S.disk site.new ≡ S.disk site.old }
+    ensures quiet { OnlyReads S.Site site.old site.new }
+    ensures disk { IsErrOf result LookErr.Disk → Rose (S.disk_faults site.old) (S.disk_faults site.new) }
 {
     let Some((place, cause)) = end_of(alloc, site, name)? else {
         return Ok(None);
@@ -141,6 +120,7 @@ fn log_number(name: &str) -> Option<u64>
 fn put_log(logs: &mut Logs, name: String) -> Result<(), LookErr>
     ensures put { OnOk result (TakesLog name logs.old logs.new) }
     ensures ordered { IsOrdered nat_cmp logs.old → IsOrdered nat_cmp logs.new }
+    ensures memory { IfErr result (λ error. error ≡ LookErr.OutOfMemory) }
 {
     if let Some(number) = log_number(name.as_str()) {
         logs.insert(number, name)?;
@@ -150,10 +130,12 @@ fn put_log(logs: &mut Logs, name: String) -> Result<(), LookErr>
 
 /// The logs of the folder, in order of number.
 ///
-/// Errors: `LookErr`.
+/// Errors: `Disk`, `OutOfMemory`.
 pub fn list_logs<S: Site>(alloc: Global, site: &mut S) -> Result<Logs, LookErr>
     ensures logs { S.shows → IfOk result (AreLogsOf (folder_of (S.disk site.old))) }
     ensures stays { S.shows → S.disk site.new ≡ S.disk site.old }
+    ensures quiet { OnlyReads S.Site site.old site.new }
+    ensures disk { IsErrOf result LookErr.Disk → Rose (S.disk_faults site.old) (S.disk_faults site.new) }
 {
     names_one();
     let mut logs = BTreeMap::new(alloc);
@@ -165,13 +147,15 @@ pub fn list_logs<S: Site>(alloc: Global, site: &mut S) -> Result<Logs, LookErr>
 
 /// Those of these logs whose reading ends before their bytes do, in order of number.
 ///
-/// Errors: `LookErr`.
+/// Errors: `Disk`; `OutOfMemory`, which also comes where a log has more than 2^64 - 1 bytes.
 pub fn early_ends<S: Site>(
     alloc: Global,
     site: &mut S,
     logs: &Logs,
 ) -> Result<Vec<EarlyEnd>, LookErr>
-    ensures { S.shows → IfOk result (λ found. TellsEach (folder_of (S.disk site.old)) (map (λ log. string_bytes log.1) logs.now.entries) found.items) }
+    ensures tells { S.shows → IfOk result (λ found. TellsEach (folder_of (S.disk site.old)) (map (λ log. string_bytes log.1) logs.now.entries) found.items) }
+    ensures quiet { OnlyReads S.Site site.old site.new }
+    ensures disk { IsErrOf result LookErr.Disk → Rose (S.disk_faults site.old) (S.disk_faults site.new) }
 {
     let mut found = Vec::new(alloc);
     for (_, name) in logs.iter() {

@@ -4,12 +4,15 @@
 ghost use Rattle.std.specs.Prelude.{◌≡◌};
 
 mod advice;
+mod error;
 mod logs;
 
 use advice::advice;
 use bl_shell::{Status, run};
+use bl_site::Site;
 use bl_site_host::{FolderLock, HostSite, HostSource, Streams};
-use logs::{Logs, LookErr, early_ends, list_logs};
+use error::LookErr;
+use logs::{Logs, early_ends, list_logs};
 use std::env;
 use std::io::{self, IsTerminal};
 use std::process::ExitCode;
@@ -65,7 +68,7 @@ fn serve(rt: &HostRuntime, words: &[String]) -> io::Result<Status> {
         let _ = eprintln!(rt; "end with Ctrl-D; `sync` makes writes durable");
     }
     let mut script = HostSource::start(rt.stdin());
-    let mut site = HostSite::start(rt.clone()?);
+    let mut site = HostSite::start(rt.clone()?, rt.stdout());
     let earlier = list_logs(rt.alloc(), &mut site);
     let status = run(rt.alloc(), words, &mut script, &mut site);
     if let Some(failure) = site.last_failure() {
@@ -85,9 +88,9 @@ fn serve(rt: &HostRuntime, words: &[String]) -> io::Result<Status> {
 }
 
 // Names each log whose reading ends before its bytes do.
-fn tell_early_ends(
+fn tell_early_ends<S: Site>(
     rt: &HostRuntime,
-    site: &mut HostSite<HostRuntime>,
+    site: &mut S,
     logs: Result<Logs, LookErr>,
 ) -> Result<(), LookErr> {
     let logs = logs?;
