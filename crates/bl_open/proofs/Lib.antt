@@ -36,3 +36,5 @@ mod FromLemmas
 mod AnswerLemmas
 mod StartingLemmas
 mod OpenedLemmas
+mod CountLemmas
+mod AddLemmas

@@ -26,6 +26,10 @@ pub each_ok : {T : Type 0} (r : Result T OpenErr) (P Q : T → Type 0) → ((x :
 each_ok (Ok x) P Q f p = f x p
 each_ok (Err e) P Q f p = tt
 
+pub each_and : {T : Type 0} (r : Result T OpenErr) (P Q : T → Type 0) → IfOk r P → IfOk r Q → IfOk r (λ x. P x × Q x)
+each_and (Ok x) P Q p q = (p, q)
+each_and (Err e) P Q p q = tt
+
 module _ {D : Type 0} (g : Ghosts D) (shown : g.shows) (only_now : (site : D) → OnlyNow g site) (counts_now : (site : D) → CountsNow g site)
     (only : (site : D) (other : Disk) → g.certain site → g.may_be site other → other ≡ g.disk site) where
   -- no name call was made

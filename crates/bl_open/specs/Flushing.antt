@@ -1,5 +1,5 @@
 -- What an opening makes of the entries that the logs held: at most one table and its blob files, beside the files that were found.
-use Rattle.std.specs.Prelude.{◌≡◌, ◌≢◌, ℕ, ◌-◌, ◌^◌, ◌≤◌, List, [], ◌∷◌, length, None, Some, Ok}
+use Rattle.std.specs.Prelude.{◌≡◌, ◌≢◌, ℕ, ◌+◌, ◌-◌, ◌^◌, ◌≤◌, List, [], ◌∷◌, length, None, Some, Ok}
 use Rattle.std.specs.List.{range_with_len}
 use Rattle.bl_site.specs.Disk.{Cut, Disk, Folder, Name}
 use Rattle.bl_names.specs.declared.name.FileName.TheVariants.{Table, Blob}
@@ -17,6 +17,7 @@ use Rattle.bl_out.specs.Flushes.{Flushed}
 use Rattle.bl_out.specs.Quiet.{IsCutBut}
 use Rattle.bl_out.specs.States.{names_of}
 use Rattle.bl_flush.specs.Flushing.{Flushes}
+use Rattle.bl_flush.specs.Jobs.{next_of}
 use Rattle.bl_wal.specs.LogFile.{log_name}
 use Rattle.bl_folder.specs.Flushes.{IsBelow, IsMemoryOf, IsWhole, installed}
 use Rattle.bl_folder.specs.Holding.{Holding}
@@ -56,6 +57,11 @@ OthersKeepRest = (from manifest : ℕ) (live : Restored) (m : Map) (old new : Di
 abbrev pub CutsBesideRest : Type 0
 CutsBesideRest = (from next manifest : ℕ) (live : Restored) (m : Map) (disk : Disk) (told : List ℕ) (c : Cut) → 1 ≤ from → next ≤ 10 ^ 15 → IsBelow from live.version
     → IsAtRest manifest live m disk → IsCutBut (drawn from next) disk told c → LeavesStanding m told c
+
+-- For a flush of the memory the numbers from one on up to below another are drawn: one for each file that the edit adds.
+pub record DrawsFor (options : Values) (memory : List Entry) (from next : ℕ) (e : Edit) : Type 0 where
+  pub wanted : next ≡ next_of options [] from memory
+  pub files : next ≡ from + (length e.added + length e.blobs)
 
 -- ---- what stands behind the flush
 

@@ -1,18 +1,20 @@
 -- What an opening reads of a folder, and what it answers.
-use Rattle.std.specs.Prelude.{◌≡◌, ◌⊎◌, ℕ, ◌^◌, ◌<◌, ◌≤◌, List, Result, Ok, Err}
+use Rattle.std.specs.Prelude.{◌≡◌, ◌⊎◌, ℕ, ◌+◌, List, Result, Ok, Err}
 use Rattle.bl_site.specs.Disk.{Folder, Name}
 use Rattle.bl_site.specs.Calls.{LeavesOnly}
 use Rattle.bl_site.specs.declared.site.Site.{Ghosts}
 use Rattle.bl_entry.specs.Revisions.{Map}
 use Rattle.bl_build.specs.Restoring.{Restored}
-use Rattle.bl_flush.specs.Jobs.{ArePutsAndDeletions}
 use Rattle.bl_entry.specs.Batches.{Batch}
+use Rattle.bl_entry.specs.declared.key.Entry.{Entry}
 use Rattle.bl_edit.specs.Options.{Values}
 use Rattle.bl_build.specs.Listing.{nothing}
 use Rattle.bl_folder.specs.Live.{IsFresh, IsLive}
 use Rattle.bl_folder.specs.Logs.{HaveBatches}
 use Rattle.bl_folder.specs.Numbers.{IsFirstNumber}
+use Rattle.bl_folder.specs.Flushes.{IsMemoryOf}
 use Rattle.bl_open.specs.Barrier.{IsOnEitherSide}
+use Rattle.bl_open.specs.Beginning.{AddsFlush}
 use Rattle.bl_open.specs.Checks.{AllPass}
 use Rattle.bl_open.specs.Damage.{HoldingFails, LacksLive}
 use Rattle.bl_open.specs.Options.{Words, check_options, defaults, given_or}
@@ -32,13 +34,6 @@ pub record HasLoaded (folder : Folder) (manifest : ℕ) (words : Words) (l : Loa
   pub pass : AllPass folder live.version
   pub logs : HasReplayedLogs folder live.standing.log_number live.standing.last_sequence l.memory l.last
   pub first : IsFirstNumber folder live.version live.standing.next_file l.first
-
--- what was loaded is in bounds: the first number is one that a file may have or the one behind, the sequences are below 2 ^ 56, and the memory has puts and deletions alone
-pub record IsBounded (l : Loaded) : Type 0 where
-  pub some : 1 ≤ l.first
-  pub most : l.first ≤ 10 ^ 15
-  pub last : l.last < 2 ^ 56
-  pub plain : ArePutsAndDeletions l.memory
 
 -- An opening with these words is refused: where the folder lacks a live part, by that place; else where a word is not the stored value, by the first such option; else where what the live part names does not hold, by that place.
 abbrev pub IsRefused : Folder → Words → OpenErr → Type 0
@@ -69,14 +64,16 @@ pub record AnswersAsRefused {T : Type 0} (folder : Folder) (words : Words) (resu
   pub only : (e : OpenErr) → result ≡ Err e → IsTelling e → IsRefused folder words e
   pub due : (e : OpenErr) → IsRefused folder words e → AnswersOnly e result
 
--- A store was begun in a fresh folder with these options, and its manifest has the first number.
+-- A store was begun in a fresh folder with these options, and its manifest has the first number. It has no table and no blob file, and the next number follows the log's.
 pub record TakesFresh (folder : Folder) (options : Values) (o : Opened) : Type 0 where
   pub fresh : IsFresh folder
   pub first : IsFirstNumber folder nothing 1 o.manifest.number
+  pub version_is : o.version ≡ nothing
   pub options_are : o.standing.options ≡ options
   pub last : o.standing.last_sequence ≡ 0
+  pub next : o.standing.next_file ≡ o.standing.log_number + 1
 
--- It was begun on the live part of a folder: it has its options and the last sequence of its batches.
+-- It was begun on the live part of a folder: it has its options and the last sequence of its batches, and its version with what a flush made of their operations.
 pub record TakesLive (folder : Folder) (o : Opened) : Type 0 where
   pub manifest : ℕ
   pub live : Restored
@@ -85,6 +82,9 @@ pub record TakesLive (folder : Folder) (o : Opened) : Type 0 where
   pub options_are : o.standing.options ≡ live.standing.options
   pub batches : List Batch
   pub have : HaveBatches folder live.standing.log_number live.standing.last_sequence batches o.standing.last_sequence
+  pub memory : List Entry
+  pub memory_of : IsMemoryOf batches memory
+  pub adds : AddsFlush live.version memory o
 
 abbrev pub TakesOver : Folder → Words → Opened → Type 0
 TakesOver folder words o = TakesFresh folder (given_or defaults words) o ⊎ TakesLive folder o

@@ -12,11 +12,11 @@ ghost use Rattle.bl_wal.specs.Held.{HoldsBatches};
 ghost use Rattle.bl_wal.specs.LogFile.{log_name, new_log};
 ghost use Rattle.bl_names.specs.declared.name.FileName.TheVariants.{Manifest as ManifestName};
 ghost use Rattle.bl_names.specs.Names.{IsNumber};
-ghost use Rattle.bl_flush.specs.Jobs.{ArePutsAndDeletions};
+ghost use Rattle.bl_folder.specs.Flushes.{IsBelow};
 ghost use Rattle.bl_folder.specs.Holding.{Holding};
 ghost use Rattle.bl_folder.specs.Settled.{IsSettled};
 ghost use Rattle.bl_open.specs.Barrier.{IsOnEitherSide};
-ghost use Rattle.bl_open.specs.Beginning.{IsInPlace, IsNumbered, IsOpened, StartsFrom, first_file};
+ghost use Rattle.bl_open.specs.Beginning.{AddsFlush, IsBounded, IsInPlace, IsNumbered, IsOpened, StartsFrom, first_file};
 ghost use Rattle.bl_open.specs.Causes.{FailsByFolder, IsWriting};
 ghost use Rattle.bl_open.specs.Found.{Found, HasTables, IsSpareFor, RestsAs};
 ghost use Rattle.bl_open.specs.Installations.{IsInstalled};
@@ -124,11 +124,10 @@ fn start_store<S: Site>(
 ///
 /// Errors: `Disk`; `Full(10^15)`, where no number is left; `OutOfMemory`.
 pub(crate) fn begin<S: Site>(alloc: Global, site: &mut S, loaded: Loaded) -> Result<Opened, OpenErr>
-    requires some { 1 ≤ loaded.first }
-    requires most { loaded.first ≤ 10 ^ 15 }
-    requires plain { ArePutsAndDeletions loaded.memory }
-    requires last { loaded.last < 2 ^ 56 }
+    requires bounded { IsBounded loaded }
+    requires below { S.shows → IsBelow loaded.first loaded.version }
     ensures numbered { IfOk result (IsNumbered loaded) }
+    ensures adds { S.shows → IfOk result (AddsFlush loaded.version loaded.memory) }
     ensures in_place { S.shows → IfOk result (λ o. IsInPlace o (S.disk site.new)) }
     ensures opened { S.shows → (found : Found) (h : Holding) (m : Map) → StartsFrom found h m loaded (S.disk site.old) → (maps : Maps) → maps 0 ≡ m → IfOk result (λ o. IsOpened maps o (S.disk site.new)) }
     ensures sides { S.shows → (found : Found) (h : Holding) (m : Map) → StartsFrom found h m loaded (S.disk site.old)

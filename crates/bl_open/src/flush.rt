@@ -15,7 +15,7 @@ ghost use Rattle.bl_flush.specs.Jobs.{ArePutsAndDeletions};
 ghost use Rattle.bl_folder.specs.Flushes.{IsBelow};
 ghost use Rattle.bl_open.specs.Barrier.{BeforeBarrier, IsOnEitherSide};
 ghost use Rattle.bl_open.specs.Causes.{FailsByFolder, IsWriting};
-ghost use Rattle.bl_open.specs.Flushing.{KeepsOthers, drawn};
+ghost use Rattle.bl_open.specs.Flushing.{DrawsFor, KeepsOthers, drawn};
 ghost use Rattle.bl_open.specs.SteadyCalls.{IsAtRest};
 ghost use Rattle.bl_open.specs.SteadyCuts.{LeavesStanding};
 
@@ -56,6 +56,7 @@ fn flush_memory<S: Site>(
     requires { ArePutsAndDeletions memory.now }
     ensures flushes { S.shows → IfOk result (Flushes options.now numbers.old numbers.new [] memory.now (S.disk site.new)) }
     ensures bounds { IfOk result (λ edit. IsEdit edit × FitsWords edit) }
+    ensures draws { IfOk result (DrawsFor options.now memory.now numbers.old numbers.new) }
     ensures upwards { numbers.old ≤ numbers.new }
     ensures most { numbers.new ≤ 10 ^ 15 }
     ensures full { (n : ℕ) → result ≡ Err (OpenErr.Full n) → (n ≡ 10 ^ 15) × (numbers.new ≡ 10 ^ 15) }
@@ -89,6 +90,7 @@ pub(crate) fn flush_found<S: Site>(
     requires { ArePutsAndDeletions memory.now }
     ensures flushes { S.shows → IfOk result (Flushes options.now numbers.old numbers.new [] memory.now (S.disk site.new)) }
     ensures bounds { IfOk result (λ edit. IsEdit edit × FitsWords edit) }
+    ensures draws { IfOk result (DrawsFor options.now memory.now numbers.old numbers.new) }
     ensures upwards { numbers.old ≤ numbers.new }
     ensures full { (n : ℕ) → result ≡ Err (OpenErr.Full n) → (n ≡ 10 ^ 15) × (numbers.new ≡ 10 ^ 15) }
     ensures others { S.shows → KeepsOthers numbers.old (S.disk site.old) (S.disk site.new) }

@@ -14,11 +14,11 @@ ghost use Rattle.bl_folder.specs.Live.{IsFresh};
 ghost use Rattle.bl_folder.specs.Settled.{IsSettled};
 ghost use Rattle.bl_folder.specs.Stands.{IsSoundFolder, Stands};
 ghost use Rattle.bl_open.specs.Answers.{IsLoading};
-ghost use Rattle.bl_open.specs.Beginning.{IsInPlace, IsOpened};
+ghost use Rattle.bl_open.specs.Beginning.{IsBounded, IsInPlace, IsOpened};
 ghost use Rattle.bl_open.specs.Causes.{IsWriting};
 ghost use Rattle.bl_open.specs.Damage.{NamesManifest};
 ghost use Rattle.bl_open.specs.Listing.{AreListed, AreLogs};
-ghost use Rattle.bl_open.specs.Recovering.{AnswersAsRefused, CutsAtBarrier, HasLoaded, IsBounded, IsTelling, TakesFresh, TakesOver};
+ghost use Rattle.bl_open.specs.Recovering.{AnswersAsRefused, CutsAtBarrier, HasLoaded, IsTelling, TakesFresh, TakesOver};
 ghost use Rattle.bl_open.specs.Replaying.{AreLogsFrom};
 ghost use Rattle.bl_open.specs.Steady.{Maps};
 

@@ -1,5 +1,6 @@
-use Rattle.std.proofs.Common.{◌≡◌, ◌+◌, ◌∙◌, ◌≤◌, ℕ, ap, sym, subst, arith, refl}
+use Rattle.std.proofs.Common.{[], ◌≡◌, ◌+◌, ◌∙◌, ◌≤◌, ℕ, ap, sym, subst, arith, refl}
 use Rattle.std.specs.Prelude.{◌^◌}
+use Rattle.bl_open.proofs.AddLemmas.{adds_flush, are_numbered}
 use Rattle.bl_open.proofs.LoadedLemmas.{after, flush_cuts, flush_sides, live_after, manifest_spare, no_cuts, no_settled, no_sides, rests_now, settled_now, store_cuts, store_sides, tables_after}
 use Rattle.bl_open.specs.Beginning.{first_file}
 use Rattle.bl_site.specs.Calls.{LeavesOnly}
@@ -7,6 +8,8 @@ use Rattle.bl_names.specs.declared.name.FileName.TheVariants.{Manifest}
 use Rattle.bl_wal.specs.LogFile.{log_name}
 use Rattle.bl_open.specs.Barrier.{IsOnEitherSide}
 use Rattle.bl_open.specs.Found.{IsSpareFor}
+use Rattle.bl_open.specs.Installations.{IsInstalled}
+use Rattle.bl_wal.specs.Held.{HoldsBatches}
 use Rattle.bl_open.specs.Steady.{Maps}
 use Rattle.bl_open.proofs.begin.begin.Goals as goal
 
@@ -93,10 +96,10 @@ returns-in_err-manifest-2-clause-sides g c = λ shown found h m s.
     let next = c.in_ok-version.ensures.next in
     let e = c.in_ok-edit.edit in
     let v = c.in_ok-version.version in
-    let h_after = after flush.tables flush.applies found h m l (site.disk old) (site.disk mid) e c.draw-2.new.self c.flush_found.new.numbers v s at c.requires.some most flushes keeps next.0 next.1 in
-    let live = live_after flush.tables flush.applies found h m l (site.disk old) (site.disk mid) e c.draw-2.new.self c.flush_found.new.numbers v s at c.requires.some most flushes keeps next.0 next.1
+    let h_after = after flush.tables flush.applies found h m l (site.disk old) (site.disk mid) e c.draw-2.new.self c.flush_found.new.numbers v s at c.requires.bounded.some most flushes keeps next.0 next.1 in
+    let live = live_after flush.tables flush.applies found h m l (site.disk old) (site.disk mid) e c.draw-2.new.self c.flush_found.new.numbers v s at c.requires.bounded.some most flushes keeps next.0 next.1
     c.in_ok-log.log c.next.result at_log c.next.ensures.value in
-    let tables = λ (maps : Maps) (first : maps 0 ≡ m). tables_after flush.tables flush.applies found h m l (site.disk old) (site.disk mid) e c.draw-2.new.self c.flush_found.new.numbers v s at c.requires.some most flushes keeps next.0 next.1
+    let tables = λ (maps : Maps) (first : maps 0 ≡ m). tables_after flush.tables flush.applies found h m l (site.disk old) (site.disk mid) e c.draw-2.new.self c.flush_found.new.numbers v s at c.requires.bounded.some most flushes keeps next.0 next.1
     maps c.in_ok-log.log first at_log in
     let rests = rests_now site found h m l old s (g.met.S.Site.only_now shown old) c.drawn_files_let_disks_rest.ensures.rest laws.cuts mid c.draw-2.new.self at keeps c.flush_found.ensures.idle in
     let spare : IsSpareFor found (Manifest c.in_ok-manifest.manifest) = subst (λ (n : ℕ). IsSpareFor found (Manifest n)) (sym at_manifest) (manifest_spare laws.numbers l.first found s.below) in
@@ -124,10 +127,10 @@ returns-in_err-manifest-2-clause-cuts g c = λ shown sure found h m s.
     let next = c.in_ok-version.ensures.next in
     let e = c.in_ok-edit.edit in
     let v = c.in_ok-version.version in
-    let h_after = after flush.tables flush.applies found h m l (site.disk old) (site.disk mid) e c.draw-2.new.self c.flush_found.new.numbers v s at c.requires.some most flushes keeps next.0 next.1 in
-    let live = live_after flush.tables flush.applies found h m l (site.disk old) (site.disk mid) e c.draw-2.new.self c.flush_found.new.numbers v s at c.requires.some most flushes keeps next.0 next.1
+    let h_after = after flush.tables flush.applies found h m l (site.disk old) (site.disk mid) e c.draw-2.new.self c.flush_found.new.numbers v s at c.requires.bounded.some most flushes keeps next.0 next.1 in
+    let live = live_after flush.tables flush.applies found h m l (site.disk old) (site.disk mid) e c.draw-2.new.self c.flush_found.new.numbers v s at c.requires.bounded.some most flushes keeps next.0 next.1
     c.in_ok-log.log c.next.result at_log c.next.ensures.value in
-    let tables = λ (maps : Maps) (first : maps 0 ≡ m). tables_after flush.tables flush.applies found h m l (site.disk old) (site.disk mid) e c.draw-2.new.self c.flush_found.new.numbers v s at c.requires.some most flushes keeps next.0 next.1
+    let tables = λ (maps : Maps) (first : maps 0 ≡ m). tables_after flush.tables flush.applies found h m l (site.disk old) (site.disk mid) e c.draw-2.new.self c.flush_found.new.numbers v s at c.requires.bounded.some most flushes keeps next.0 next.1
     maps c.in_ok-log.log first at_log in
     let rests = rests_now site found h m l old s (g.met.S.Site.only_now shown old) c.drawn_files_let_disks_rest.ensures.rest laws.cuts mid c.draw-2.new.self at keeps c.flush_found.ensures.idle in
     let spare : IsSpareFor found (Manifest c.in_ok-manifest.manifest) = subst (λ (n : ℕ). IsSpareFor found (Manifest n)) (sym at_manifest) (manifest_spare laws.numbers l.first found s.below) in
@@ -152,10 +155,10 @@ returns-in_err-manifest-2-clause-settled g c = λ shown found h m s.
     let next = c.in_ok-version.ensures.next in
     let e = c.in_ok-edit.edit in
     let v = c.in_ok-version.version in
-    let h_after = after flush.tables flush.applies found h m l (site.disk old) (site.disk mid) e c.draw-2.new.self c.flush_found.new.numbers v s at c.requires.some most flushes keeps next.0 next.1 in
-    let live = live_after flush.tables flush.applies found h m l (site.disk old) (site.disk mid) e c.draw-2.new.self c.flush_found.new.numbers v s at c.requires.some most flushes keeps next.0 next.1
+    let h_after = after flush.tables flush.applies found h m l (site.disk old) (site.disk mid) e c.draw-2.new.self c.flush_found.new.numbers v s at c.requires.bounded.some most flushes keeps next.0 next.1 in
+    let live = live_after flush.tables flush.applies found h m l (site.disk old) (site.disk mid) e c.draw-2.new.self c.flush_found.new.numbers v s at c.requires.bounded.some most flushes keeps next.0 next.1
     c.in_ok-log.log c.next.result at_log c.next.ensures.value in
-    let tables = λ (maps : Maps) (first : maps 0 ≡ m). tables_after flush.tables flush.applies found h m l (site.disk old) (site.disk mid) e c.draw-2.new.self c.flush_found.new.numbers v s at c.requires.some most flushes keeps next.0 next.1
+    let tables = λ (maps : Maps) (first : maps 0 ≡ m). tables_after flush.tables flush.applies found h m l (site.disk old) (site.disk mid) e c.draw-2.new.self c.flush_found.new.numbers v s at c.requires.bounded.some most flushes keeps next.0 next.1
     maps c.in_ok-log.log first at_log in
     let rests = rests_now site found h m l old s (g.met.S.Site.only_now shown old) c.drawn_files_let_disks_rest.ensures.rest laws.cuts mid c.draw-2.new.self at keeps c.flush_found.ensures.idle in
     let spare : IsSpareFor found (Manifest c.in_ok-manifest.manifest) = subst (λ (n : ℕ). IsSpareFor found (Manifest n)) (sym at_manifest) (manifest_spare laws.numbers l.first found s.below) in
@@ -178,10 +181,10 @@ returns-clause-sides g c = λ shown found h m s.
     let next = c.in_ok-version.ensures.next in
     let e = c.in_ok-edit.edit in
     let v = c.in_ok-version.version in
-    let h_after = after flush.tables flush.applies found h m l (site.disk old) (site.disk mid) e c.draw-2.new.self c.flush_found.new.numbers v s at c.requires.some most flushes keeps next.0 next.1 in
-    let live = live_after flush.tables flush.applies found h m l (site.disk old) (site.disk mid) e c.draw-2.new.self c.flush_found.new.numbers v s at c.requires.some most flushes keeps next.0 next.1
+    let h_after = after flush.tables flush.applies found h m l (site.disk old) (site.disk mid) e c.draw-2.new.self c.flush_found.new.numbers v s at c.requires.bounded.some most flushes keeps next.0 next.1 in
+    let live = live_after flush.tables flush.applies found h m l (site.disk old) (site.disk mid) e c.draw-2.new.self c.flush_found.new.numbers v s at c.requires.bounded.some most flushes keeps next.0 next.1
     c.in_ok-log.log c.next.result at_log c.next.ensures.value in
-    let tables = λ (maps : Maps) (first : maps 0 ≡ m). tables_after flush.tables flush.applies found h m l (site.disk old) (site.disk mid) e c.draw-2.new.self c.flush_found.new.numbers v s at c.requires.some most flushes keeps next.0 next.1
+    let tables = λ (maps : Maps) (first : maps 0 ≡ m). tables_after flush.tables flush.applies found h m l (site.disk old) (site.disk mid) e c.draw-2.new.self c.flush_found.new.numbers v s at c.requires.bounded.some most flushes keeps next.0 next.1
     maps c.in_ok-log.log first at_log in
     let rests = rests_now site found h m l old s (g.met.S.Site.only_now shown old) c.drawn_files_let_disks_rest.ensures.rest laws.cuts mid c.draw-2.new.self at keeps c.flush_found.ensures.idle in
     let spare : IsSpareFor found (Manifest c.in_ok-manifest.manifest) = subst (λ (n : ℕ). IsSpareFor found (Manifest n)) (sym at_manifest) (manifest_spare laws.numbers l.first found s.below) in
@@ -209,10 +212,10 @@ returns-clause-cuts g c = λ shown sure found h m s.
     let next = c.in_ok-version.ensures.next in
     let e = c.in_ok-edit.edit in
     let v = c.in_ok-version.version in
-    let h_after = after flush.tables flush.applies found h m l (site.disk old) (site.disk mid) e c.draw-2.new.self c.flush_found.new.numbers v s at c.requires.some most flushes keeps next.0 next.1 in
-    let live = live_after flush.tables flush.applies found h m l (site.disk old) (site.disk mid) e c.draw-2.new.self c.flush_found.new.numbers v s at c.requires.some most flushes keeps next.0 next.1
+    let h_after = after flush.tables flush.applies found h m l (site.disk old) (site.disk mid) e c.draw-2.new.self c.flush_found.new.numbers v s at c.requires.bounded.some most flushes keeps next.0 next.1 in
+    let live = live_after flush.tables flush.applies found h m l (site.disk old) (site.disk mid) e c.draw-2.new.self c.flush_found.new.numbers v s at c.requires.bounded.some most flushes keeps next.0 next.1
     c.in_ok-log.log c.next.result at_log c.next.ensures.value in
-    let tables = λ (maps : Maps) (first : maps 0 ≡ m). tables_after flush.tables flush.applies found h m l (site.disk old) (site.disk mid) e c.draw-2.new.self c.flush_found.new.numbers v s at c.requires.some most flushes keeps next.0 next.1
+    let tables = λ (maps : Maps) (first : maps 0 ≡ m). tables_after flush.tables flush.applies found h m l (site.disk old) (site.disk mid) e c.draw-2.new.self c.flush_found.new.numbers v s at c.requires.bounded.some most flushes keeps next.0 next.1
     maps c.in_ok-log.log first at_log in
     let rests = rests_now site found h m l old s (g.met.S.Site.only_now shown old) c.drawn_files_let_disks_rest.ensures.rest laws.cuts mid c.draw-2.new.self at keeps c.flush_found.ensures.idle in
     let spare : IsSpareFor found (Manifest c.in_ok-manifest.manifest) = subst (λ (n : ℕ). IsSpareFor found (Manifest n)) (sym at_manifest) (manifest_spare laws.numbers l.first found s.below) in
@@ -237,10 +240,10 @@ returns-clause-settled g c = λ shown found h m s.
     let next = c.in_ok-version.ensures.next in
     let e = c.in_ok-edit.edit in
     let v = c.in_ok-version.version in
-    let h_after = after flush.tables flush.applies found h m l (site.disk old) (site.disk mid) e c.draw-2.new.self c.flush_found.new.numbers v s at c.requires.some most flushes keeps next.0 next.1 in
-    let live = live_after flush.tables flush.applies found h m l (site.disk old) (site.disk mid) e c.draw-2.new.self c.flush_found.new.numbers v s at c.requires.some most flushes keeps next.0 next.1
+    let h_after = after flush.tables flush.applies found h m l (site.disk old) (site.disk mid) e c.draw-2.new.self c.flush_found.new.numbers v s at c.requires.bounded.some most flushes keeps next.0 next.1 in
+    let live = live_after flush.tables flush.applies found h m l (site.disk old) (site.disk mid) e c.draw-2.new.self c.flush_found.new.numbers v s at c.requires.bounded.some most flushes keeps next.0 next.1
     c.in_ok-log.log c.next.result at_log c.next.ensures.value in
-    let tables = λ (maps : Maps) (first : maps 0 ≡ m). tables_after flush.tables flush.applies found h m l (site.disk old) (site.disk mid) e c.draw-2.new.self c.flush_found.new.numbers v s at c.requires.some most flushes keeps next.0 next.1
+    let tables = λ (maps : Maps) (first : maps 0 ≡ m). tables_after flush.tables flush.applies found h m l (site.disk old) (site.disk mid) e c.draw-2.new.self c.flush_found.new.numbers v s at c.requires.bounded.some most flushes keeps next.0 next.1
     maps c.in_ok-log.log first at_log in
     let rests = rests_now site found h m l old s (g.met.S.Site.only_now shown old) c.drawn_files_let_disks_rest.ensures.rest laws.cuts mid c.draw-2.new.self at keeps c.flush_found.ensures.idle in
     let spare : IsSpareFor found (Manifest c.in_ok-manifest.manifest) = subst (λ (n : ℕ). IsSpareFor found (Manifest n)) (sym at_manifest) (manifest_spare laws.numbers l.first found s.below) in
@@ -263,10 +266,10 @@ returns-clause-opened g c = λ shown found h m s maps first.
     let next = c.in_ok-version.ensures.next in
     let e = c.in_ok-edit.edit in
     let v = c.in_ok-version.version in
-    let h_after = after flush.tables flush.applies found h m l (site.disk old) (site.disk mid) e c.draw-2.new.self c.flush_found.new.numbers v s at c.requires.some most flushes keeps next.0 next.1 in
-    let live = live_after flush.tables flush.applies found h m l (site.disk old) (site.disk mid) e c.draw-2.new.self c.flush_found.new.numbers v s at c.requires.some most flushes keeps next.0 next.1
+    let h_after = after flush.tables flush.applies found h m l (site.disk old) (site.disk mid) e c.draw-2.new.self c.flush_found.new.numbers v s at c.requires.bounded.some most flushes keeps next.0 next.1 in
+    let live = live_after flush.tables flush.applies found h m l (site.disk old) (site.disk mid) e c.draw-2.new.self c.flush_found.new.numbers v s at c.requires.bounded.some most flushes keeps next.0 next.1
     c.in_ok-log.log c.next.result at_log c.next.ensures.value in
-    let tables = λ (maps : Maps) (first : maps 0 ≡ m). tables_after flush.tables flush.applies found h m l (site.disk old) (site.disk mid) e c.draw-2.new.self c.flush_found.new.numbers v s at c.requires.some most flushes keeps next.0 next.1
+    let tables = λ (maps : Maps) (first : maps 0 ≡ m). tables_after flush.tables flush.applies found h m l (site.disk old) (site.disk mid) e c.draw-2.new.self c.flush_found.new.numbers v s at c.requires.bounded.some most flushes keeps next.0 next.1
     maps c.in_ok-log.log first at_log in
     let rests = rests_now site found h m l old s (g.met.S.Site.only_now shown old) c.drawn_files_let_disks_rest.ensures.rest laws.cuts mid c.draw-2.new.self at keeps c.flush_found.ensures.idle in
     let spare : IsSpareFor found (Manifest c.in_ok-manifest.manifest) = subst (λ (n : ℕ). IsSpareFor found (Manifest n)) (sym at_manifest) (manifest_spare laws.numbers l.first found s.below) in
@@ -275,4 +278,28 @@ returns-clause-opened g c = λ shown found h m s maps first.
       live = live;
       batches = (tables maps first).batches;
       steady = c.in_ok-manifest-2.ensures.steady shown maps h_after (tables maps first) live;
+    }
+
+pub returns-clause-adds : goal.returns-clause-adds
+returns-clause-adds g c = λ shown.
+    let l = c.args.loaded in
+    let at : c.draw-2.new.self ≡ c.in_ok-log.log + 1 = omega (arith, c.in_ok-log.ensures.drawn.2, c.in_ok-log.ensures.drawn.0) in
+    adds_flush l.version l.memory l.options c.draw-2.new.self c.flush_found.new.numbers (g.S.Site.disk c.flush_found.new.site) c.in_ok-edit.edit (c.in_ok-edit.ensures.flushes shown) c.in_ok-edit.ensures.draws
+    _ at c.next.ensures.value refl c.in_ok-version.ensures.next.0
+
+pub returns-clause-in_place : goal.returns-clause-in_place
+returns-clause-in_place g c = λ shown.
+    let l = c.args.loaded in
+    let at : c.draw-2.new.self ≡ l.first + 2 = omega (arith, c.in_ok-log.ensures.drawn.2, c.in_ok-manifest.ensures.drawn.2, c.from-numbers.ensures) in
+    let at_from : c.draw-2.new.self ≡ c.in_ok-log.log + 1 = omega (arith, c.in_ok-log.ensures.drawn.2, c.in_ok-log.ensures.drawn.0) in
+    let made = c.in_ok-manifest-2.ensures.made in
+    let at_log : c.in_ok-log.log ≡ c.in_ok-manifest.manifest + 1 = omega (arith, c.in_ok-log.ensures.drawn.0, c.in_ok-manifest.ensures.drawn.2, c.in_ok-manifest.ensures.drawn.0) in
+    let most : c.flush_found.new.numbers ≤ 10 ^ 15 = omega (arith, c.next.ensures.value, c.next.ensures.bound) in
+    record {
+      installed = subst (λ n. IsInstalled n (record { version = c.in_ok-version.version; standing = record { log_number = c.in_ok-log.log; next_file = c.next.result; last_sequence = l.last; options = l.options } }) (g.S.Site.disk c.start_store.new.site)) (sym made.0) (c.in_ok-manifest-2.ensures.installed shown);
+      usable = made.1;
+      wal = made.2;
+      log = subst (λ w. HoldsBatches (g.S.Site.disk c.start_store.new.site) w [] 0) (sym made.2) (c.in_ok-manifest-2.ensures.empty shown);
+      numbers = are_numbered l.version l.memory l.options c.draw-2.new.self c.flush_found.new.numbers (g.S.Site.disk c.flush_found.new.site) c.in_ok-edit.edit (c.in_ok-edit.ensures.flushes shown) c.in_ok-edit.ensures.draws
+          _ at_from c.next.ensures.value (at_log ∙ ap (λ n. n + 1) (sym made.0)) most l.first (omega (arith, at)) (c.requires.below shown) c.in_ok-version.ensures.next.0;
     }

@@ -1,13 +1,16 @@
-use Rattle.std.proofs.Common.{◌≤◌, inl, None, sym, subst, refl, arith}
+use Rattle.std.proofs.Common.{◌≡◌, ◌≤◌, List, [], inl, None, sym, subst, refl, arith}
 use Rattle.std.specs.FinMap.{empty}
 use Rattle.bl_site.specs.Disk.{folder_of}
-use Rattle.bl_build.specs.Listing.{nothing}
+use Rattle.bl_build.specs.Listing.{Listing, nothing}
 use Rattle.bl_build.specs.Versions.{IsVersion}
 use Rattle.bl_folder.specs.Holding.{Holding}
 use Rattle.bl_folder.specs.Numbers.{IsFirstNumber}
-use Rattle.bl_open.proofs.OpenedLemmas.{each_ok, nothing_passes}
+use Rattle.bl_entry.specs.declared.key.Entry.{Entry}
+use Rattle.bl_folder.specs.Flushes.{IsBelow}
+use Rattle.bl_open.proofs.AddLemmas.{nothing_added}
+use Rattle.bl_open.proofs.OpenedLemmas.{each_and, each_ok, nothing_passes}
 use Rattle.bl_open.proofs.StartingLemmas.{starts_fresh}
-use Rattle.bl_open.specs.Beginning.{IsNumbered, first_file}
+use Rattle.bl_open.specs.Beginning.{AddsFlush, IsNumbered, first_file}
 use Rattle.bl_open.specs.Fresh.{no_holding}
 use Rattle.bl_open.specs.Recovering.{TakesFresh}
 use Rattle.bl_open.specs.declared.begin.Loaded.{Loaded}
@@ -20,14 +23,20 @@ returns-clause-takes g c = λ shown.
     let is : IsVersion nothing = subst IsVersion c.empty-version.ensures c.version_is_in_order.ensures in
     let some : 1 ≤ 1 = omega arith in
     let first : IsFirstNumber folder nothing 1 c.first_number.result = c.first_number.ensures.first folder nothing is (nothing_passes folder) (c.requires.listed shown) (inl some) in
-    each_ok c.begin.result (IsNumbered l) (TakesFresh folder c.args.options)
-    (λ o n. record {
+    let none : c.start.result ≡ [] = c.start.ensures in
+    each_ok c.begin.result (λ o. IsNumbered l o × AddsFlush l.version l.memory o) (TakesFresh folder c.args.options)
+    (λ o both. let n = both.0 in record {
       fresh = c.requires.fresh shown;
       first = subst (IsFirstNumber folder nothing 1) (sym n.manifest) first;
+      version_is = (nothing_added o (subst (λ (v : Listing). AddsFlush v [] o) c.empty-version.ensures (subst (λ (es : List Entry). AddsFlush l.version es o) none both.1))).0;
       options_are = n.options;
       last = n.last;
+      next = (nothing_added o (subst (λ (v : Listing). AddsFlush v [] o) c.empty-version.ensures (subst (λ (es : List Entry). AddsFlush l.version es o) none both.1))).1;
     })
-    c.begin.ensures.numbered
+    (each_and c.begin.result (IsNumbered l) (AddsFlush l.version l.memory) c.begin.ensures.numbered (c.begin.ensures.adds shown))
+
+pub begin-requires-clause-below : goal.begin-requires-clause-below
+begin-requires-clause-below g c = λ shown. subst (λ (v : Listing). IsBelow c.first_number.result v) (sym c.empty-version.ensures) (record { tables = tt; blobs = tt })
 
 pub returns-clause-opened : goal.returns-clause-opened
 returns-clause-opened g c = λ shown settled maps at_first.

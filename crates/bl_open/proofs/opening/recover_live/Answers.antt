@@ -4,6 +4,8 @@ use Rattle.bl_site.specs.Disk.{Disk, Folder, folder_of, written_of}
 use Rattle.bl_names.specs.declared.name.FileName.TheVariants.{Manifest}
 use Rattle.bl_names.specs.Names.{manifest_name}
 use Rattle.bl_out.specs.Files.{file}
+use Rattle.bl_build.specs.Listing.{Listing}
+use Rattle.bl_folder.specs.Flushes.{IsBelow}
 use Rattle.bl_folder.specs.Live.{IsLive}
 use Rattle.bl_folder.specs.Settled.{IsSettled}
 use Rattle.bl_folder.specs.Stands.{Stands}
@@ -12,13 +14,13 @@ use Rattle.bl_records.specs.Chance.{NoChanceMatch}
 use Rattle.bl_folder.specs.Logs.{HaveBatches}
 use Rattle.bl_folder.specs.Numbers.{IsFirstNumber}
 use Rattle.bl_open.proofs.AnswerLemmas.{loading_not_full, missing_not_full, missing_refused, reading_not_full, reading_refused}
-use Rattle.bl_open.proofs.OpenedLemmas.{cause_not_full, cause_silent, each_ok, no_telling, nothing_cuts, silent_same, some_in, the_logs, then_cuts}
+use Rattle.bl_open.proofs.OpenedLemmas.{cause_not_full, cause_silent, each_and, each_ok, no_telling, nothing_cuts, silent_same, some_in, the_logs, then_cuts}
 use Rattle.bl_open.proofs.ReadLemmas.{reads_make_nothing, then_nothing, then_reads}
 use Rattle.bl_open.proofs.RefusalLemmas.{due_of, loaded_not_refused, none_refused}
 use Rattle.bl_open.proofs.StartingLemmas.{live_stands, starts_live}
 use Rattle.bl_open.specs.Answers.{IsLoading, IsReading}
 use Rattle.bl_open.specs.Barrier.{AreTheLogs, MakesNothing}
-use Rattle.bl_open.specs.Beginning.{IsNumbered, first_file}
+use Rattle.bl_open.specs.Beginning.{AddsFlush, IsNumbered, first_file}
 use Rattle.bl_open.specs.Damage.{NamesManifest}
 use Rattle.bl_open.specs.Found.{RestsAs}
 use Rattle.bl_open.specs.Listing.{AreListed, AreLogs}
@@ -242,8 +244,9 @@ returns-clause-takes g c = λ shown.
     let loaded2 = c.in_ok-loaded.ensures.loaded shown in
     let loaded : HasLoaded (folder_of (site.disk s3)) c.in_ok-manifest.manifest c.args.asked.now l =
     subst (λ (d : Disk). HasLoaded (folder_of d) c.in_ok-manifest.manifest c.args.asked.now l) (sym read) loaded2 in
-    each_ok c.begin.result (IsNumbered l) (TakesOver (folder_of (site.disk s0)) c.args.asked.now)
-    (λ o n. inr (subst (λ (f : Folder). TakesLive f o) same3 (record {
+    let adds = each_and c.begin.result (IsNumbered l) (AddsFlush l.version l.memory) c.begin.ensures.numbered (c.begin.ensures.adds shown) in
+    each_ok c.begin.result (λ o. IsNumbered l o × AddsFlush l.version l.memory o) (TakesOver (folder_of (site.disk s0)) c.args.asked.now)
+    (λ o both. let n = both.0 in inr (subst (λ (f : Folder). TakesLive f o) same3 (record {
       manifest = c.in_ok-manifest.manifest;
       live = loaded.live;
       is_live = loaded.is_live;
@@ -251,8 +254,11 @@ returns-clause-takes g c = λ shown.
       options_are = n.options ∙ sym loaded.options_are;
       batches = loaded.logs.batches;
       have = subst (HaveBatches (folder_of (site.disk s3)) loaded.live.standing.log_number loaded.live.standing.last_sequence loaded.logs.batches) (sym n.last) loaded.logs.have;
+      memory = l.memory;
+      memory_of = c.memories_tell_what_was_inserted.ensures.memory loaded.logs.batches l.memory l.last loaded.logs.fit loaded.logs.holds;
+      adds = subst (λ (v : Listing). AddsFlush v l.memory o) (sym loaded.version_is) both.1;
     })))
-    c.begin.ensures.numbered
+    adds
 
 pub returns-clause-opened : goal.returns-clause-opened
 returns-clause-opened g c = λ shown settled m stands maps at_first.
@@ -351,3 +357,9 @@ returns-clause-answers g c = λ shown.
 
 pub returns-clause-same : goal.returns-clause-same
 returns-clause-same g c = λ shown. silent_same (folder_of (g.S.Site.disk c.begin.new.site) ≡ folder_of (g.S.Site.disk c.args.site.now)) c.begin.result c.begin.ensures.causes
+
+pub begin-requires-clause-below : goal.begin-requires-clause-below
+begin-requires-clause-below g c = λ shown.
+    let loaded = c.in_ok-loaded.ensures.loaded shown in
+    let above = loaded.first.above in
+    subst (IsBelow c.in_ok-loaded.loaded.first) loaded.version_is (record { tables = above.tables; blobs = above.blobs })
