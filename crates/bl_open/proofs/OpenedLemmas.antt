@@ -1,19 +1,22 @@
 -- An opening as a whole.
-use Rattle.std.proofs.Common.{◌≡◌, ◌<◌, inl, inr, ℕ, zero, suc, List, [], ◌∷◌, length, get_or, Option, None, Some, IsSome, Result, Ok, Err, refl, ◌∙◌, subst, arith}
+use Rattle.std.proofs.Common.{◌≡◌, ◌+◌, ◌<◌, inl, inr, ℕ, zero, suc, List, [], ◌∷◌, length, get_or, Option, None, Some, IsSome, Result, Ok, Err, refl, ◌∙◌, subst, arith}
 use Rattle.std.specs.Prelude.{IfErr, IfOk}
 use Rattle.std.specs.FinMap.{empty}
 use Rattle.std.specs.Option.{option_map}
 use Rattle.bl_site.specs.Disk.{Disk, File, Folder, Name, folder_of}
 use Rattle.bl_site.specs.declared.site.Site.{Ghosts}
 use Rattle.bl_entry.specs.Revisions.{Map}
-use Rattle.bl_build.specs.Listing.{nothing}
+use Rattle.bl_build.specs.Listing.{Listing, nothing}
+use Rattle.bl_entry.specs.declared.key.Entry.{Entry}
+use Rattle.bl_folder.specs.Numbers.{IsFirstNumber}
 use Rattle.bl_folder.specs.Live.{IsFresh}
 use Rattle.bl_folder.specs.Stands.{Stands}
 use Rattle.bl_records.specs.Causes.{IsCause}
-use Rattle.bl_open.proofs.MomentLemmas.{CountsNow, OnlyNow}
+use Rattle.bl_open.proofs.MomentLemmas.{CountsNow, OnlyNow, then_found}
 use Rattle.bl_open.proofs.ReadLemmas.{nothing_side, nothing_then_side}
 use Rattle.bl_wal.specs.LogFile.{log_name}
-use Rattle.bl_open.specs.Barrier.{AreTheLogs, MakesNothing}
+use Rattle.bl_open.specs.Barrier.{AreTheLogs, IsNewFile, MakesNothing}
+use Rattle.bl_open.specs.Beginning.{first_file}
 use Rattle.bl_open.specs.Causes.{IsWriting}
 use Rattle.bl_open.specs.Checks.{AllPass}
 use Rattle.bl_open.specs.Listing.{AreLogs}
@@ -34,10 +37,22 @@ module _ {D : Type 0} (g : Ghosts D) (shown : g.shows) (only_now : (site : D) �
     (only : (site : D) (other : Disk) → g.certain site → g.may_be site other → other ≡ g.disk site) where
   -- no name call was made
   pub nothing_cuts : (m : Map) (old new : D) → MakesNothing g old new → CutsAtBarrier g m old new
-  nothing_cuts m old new n = record { first = []; sides = nothing_side g shown only_now counts_now only [] m old new n }
+  nothing_cuts m old new n = record { first = []; is_new = inr n.found; sides = nothing_side g shown only_now counts_now only [] m old new n }
 
-  pub then_cuts : (m : Map) (old mid new : D) → MakesNothing g old mid → CutsAtBarrier g m mid new → CutsAtBarrier g m old new
-  then_cuts m old mid new n c = record { first = c.first; sides = nothing_then_side g shown only_now counts_now only c.first m old mid new n c.sides }
+  pub then_cuts : (m : Map) (old mid new : D) → MakesNothing g old mid → folder_of (g.disk mid) ≡ folder_of (g.disk old) → CutsAtBarrier g m mid new → CutsAtBarrier g m old new
+  then_cuts m old mid new n same c = record {
+    first = c.first;
+    is_new = elim c.is_new [
+      | inl file ↦ inl (subst (λ (f : Folder). IsNewFile f c.first) same file)
+      | inr found ↦ inr (then_found g old mid new (counts_now mid) n.told n.found found)
+    ];
+    sides = nothing_then_side g shown only_now counts_now only c.first m old mid new n c.sides;
+  }
+
+-- the first file has a number above those of all files
+pub first_is_new : (folder : Folder) (version : Listing) (next first : ℕ) (memory : List Entry) → IsFirstNumber folder version next first → IsNewFile folder (first_file memory first)
+first_is_new folder version next first [] is = record { number = first + 1; kind = inl refl; behind = λ f has some. let less = is.above.names f has some in omega (arith, less) }
+first_is_new folder version next first (e ∷ es) is = record { number = first + 2; kind = inr refl; behind = λ f has some. let less = is.above.names f has some in omega (arith, less) }
 
 -- a version of no file passes
 pub nothing_passes : (folder : Folder) → AllPass folder nothing

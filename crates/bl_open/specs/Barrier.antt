@@ -3,9 +3,13 @@ use Rattle.std.specs.Prelude.{◌≡◌, ◌≢◌, ◌⊎◌, ℕ, ◌<◌, Lis
 use Rattle.bl_site.specs.Disk.{Name, Folder, Disk, Cut, IsImage}
 use Rattle.bl_site.specs.Calls.{LeavesOnly}
 use Rattle.bl_site.specs.declared.site.Site.{Ghosts}
-use Rattle.bl_names.specs.Names.{IsNumber}
+use Rattle.bl_names.specs.declared.name.FileName.{FileName}
+use Rattle.bl_names.specs.declared.name.FileName.TheVariants.{Table}
+use Rattle.bl_names.specs.Names.{HasNumber, IsNumber, name_of}
 use Rattle.bl_entry.specs.Revisions.{Map}
 use Rattle.bl_wal.specs.LogFile.{log_name}
+use Rattle.bl_out.specs.Files.{file}
+use Rattle.bl_folder.specs.Numbers.{number_of}
 use Rattle.bl_open.specs.SteadyCuts.{LeavesStanding}
 
 -- a cut might find this folder, of the disks that there may be
@@ -16,6 +20,16 @@ MayBeFound may_be folder = (disk : Disk) × may_be disk × IsImage disk folder
 pub record LeavesFound (may_be : Disk → Type 0) (told : List ℕ) (c : Cut) : Type 0 where
   pub told_is : c.told ≡ told
   pub was : MayBeFound may_be c.folder
+
+-- the number is above those of all files of the folder
+abbrev pub IsBehindAll : Folder → ℕ → Type 0
+IsBehindAll folder number = (f : FileName) → HasNumber f → IsSome (file folder f) → number_of f < number
+
+-- a log or a table whose number is above those of all files of the folder
+pub record IsNewFile (folder : Folder) (name : Name) : Type 0 where
+  pub number : ℕ
+  pub kind : (name ≡ log_name number) ⊎ (name ≡ name_of (Table number))
+  pub behind : IsBehindAll folder number
 
 -- what was found, and under this name an empty file
 pub record HasEmptyFile (name : Name) (found left : Folder) : Type 0 where

@@ -31,6 +31,7 @@ returns-clause-cuts g c = λ shown settled.
     let laws = g.met.S.Site in
     then_cuts g.S.Site shown (λ site. laws.only_now shown site) (λ site. laws.counts_now shown site) (λ site other sure. laws.only shown site other sure) empty c.args.site.now c.list_files.new.site c.create_among.new.site
     (reads_make_nothing g.S.Site shown (λ site. laws.only_now shown site) (λ site. laws.counts_now shown site) (λ site other sure. laws.only shown site other sure) c.args.site.now c.list_files.new.site c.list_files.ensures.quiet)
+    (ap folder_of (c.list_files.ensures.quiet.stays shown).same)
     (c.create_among.ensures.cuts shown (subst IsSettled (sym (c.list_files.ensures.quiet.stays shown).same) settled))
 
 pub returns-clause-settled : goal.returns-clause-settled

@@ -77,7 +77,7 @@ returns-then-has_file-clause-cuts g c = λ shown settled m stands.
     let stays1 : site.disk s1 ≡ site.disk s0 = (c.list_files.ensures.quiet.stays shown).same in
     let same1 : folder_of (site.disk s1) ≡ folder_of (site.disk s0) = ap folder_of stays1 in
     let n1 = reads_make_nothing site shown (λ x. laws.only_now shown x) (λ x. laws.counts_now shown x) (λ x other sure. laws.only shown x other sure) s0 s1 c.list_files.ensures.quiet in
-    then_cuts site shown (λ x. laws.only_now shown x) (λ x. laws.counts_now shown x) (λ x other sure. laws.only shown x other sure) m s0 s1 c.recover_live.new.site n1
+    then_cuts site shown (λ x. laws.only_now shown x) (λ x. laws.counts_now shown x) (λ x other sure. laws.only shown x other sure) m s0 s1 c.recover_live.new.site n1 same1
     (c.recover_live.ensures.cuts shown (subst IsSettled (sym stays1) settled) m (subst (λ (f : Folder). Stands f m) (sym same1) stands))
 
 pub returns-then-has_file-clause-settled : goal.returns-then-has_file-clause-settled
@@ -201,7 +201,7 @@ returns-clause-cuts g c = λ shown settled m stands.
     let n1 = reads_make_nothing site shown (λ x. laws.only_now shown x) (λ x. laws.counts_now shown x) (λ x other sure. laws.only shown x other sure) s0 s1 c.list_files.ensures.quiet in
     let n2 = then_reads site shown (λ x. laws.only_now shown x) (λ x. laws.counts_now shown x) (λ x other sure. laws.only shown x other sure) s0 s1 c.check_fresh.new.site n1 c.check_fresh.ensures.quiet in
     subst (λ (x : Map). CutsAtBarrier site x s0 c.create_among.new.site) (sym (fresh_is_empty (folder_of (site.disk s0)) m fresh stands))
-    (then_cuts site shown (λ x. laws.only_now shown x) (λ x. laws.counts_now shown x) (λ x other sure. laws.only shown x other sure) empty s0 c.check_fresh.new.site c.create_among.new.site n2 (c.create_among.ensures.cuts shown (subst IsSettled (sym stays2) settled)))
+    (then_cuts site shown (λ x. laws.only_now shown x) (λ x. laws.counts_now shown x) (λ x other sure. laws.only shown x other sure) empty s0 c.check_fresh.new.site c.create_among.new.site n2 same2 (c.create_among.ensures.cuts shown (subst IsSettled (sym stays2) settled)))
 
 pub returns-clause-settled : goal.returns-clause-settled
 returns-clause-settled g c = λ shown settled sound no_chance.
