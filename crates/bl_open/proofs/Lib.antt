@@ -38,3 +38,4 @@ mod StartingLemmas
 mod OpenedLemmas
 mod CountLemmas
 mod AddLemmas
+mod KeepLemmas

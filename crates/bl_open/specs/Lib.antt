@@ -7,6 +7,7 @@ pub mod SteadyLaws
 pub mod Fresh
 pub mod Found
 pub mod Barrier
+pub mod Keeping
 pub mod OpeningLaws
 pub mod Answers
 pub mod Flushing

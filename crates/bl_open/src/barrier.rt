@@ -13,7 +13,8 @@ ghost use Rattle.bl_out.specs.Files.{file as file_in};
 ghost use Rattle.bl_folder.specs.Settled.{IsSettled, IsSynced};
 ghost use Rattle.bl_folder.specs.Stands.{Stands};
 ghost use Rattle.bl_open.specs.Causes.{FailsByFolder};
-ghost use Rattle.bl_open.specs.SteadyCalls.{IsPastBarrier};
+ghost use Rattle.bl_open.specs.Keeping.{KeepsAllButLogs};
+ghost use Rattle.bl_open.specs.SteadyCalls.{IsPastBarrier, KeepsAllBut};
 ghost use Rattle.bl_open.specs.Barrier.{AreTheLogs, FindsNoNewFile, LeavesFound, MakesNoFile};
 ghost use Rattle.bl_open.specs.Found.{Found, IsFoundAs, RestsAs};
 
@@ -37,6 +38,7 @@ pub(crate) fn sync_file<S: Site>(
     requires number { HasNumber file.now }
     requires there { S.shows → IsSome (S.disk site.old (name_of file.now)) }
     ensures done { S.shows → OnOk result (Syncs (name_of file.now) (S.disk site.old) (S.disk site.new)) }
+    ensures only { S.shows → KeepsAllBut (name_of file.now) (S.disk site.old) (S.disk site.new) }
     ensures no_file { S.shows → MakesNoFile (S.disk site.old) (S.disk site.new) }
     ensures before { S.shows → LeavesOnly S.clock S.left_since site.old site.new (LeavesFound (S.may_be site.old) (S.told site.old)) }
     ensures no_new { S.shows → S.certain site.old → LeavesOnly S.clock S.left_since site.old site.new (FindsNoNewFile (S.disk site.old)) }
@@ -67,6 +69,7 @@ pub(crate) fn sync_logs<S: Site>(
     ensures same { S.shows → OnOk result (folder_of (S.disk site.new) ≡ folder_of (S.disk site.old)) }
     ensures synced { S.shows → OnOk result ((n : ℕ) → IsNumber n → IsSynced (S.disk site.new) (Log n)) }
     ensures still { S.shows → OnOk result ((f : File) → IsSynced (S.disk site.old) f → IsSynced (S.disk site.new) f) }
+    ensures only { S.shows → KeepsAllButLogs (S.disk site.old) (S.disk site.new) }
     ensures no_file { S.shows → MakesNoFile (S.disk site.old) (S.disk site.new) }
     ensures before { S.shows → LeavesOnly S.clock S.left_since site.old site.new (LeavesFound (S.may_be site.old) (S.told site.old)) }
     ensures no_new { S.shows → S.certain site.old → LeavesOnly S.clock S.left_since site.old site.new (FindsNoNewFile (S.disk site.old)) }
@@ -103,6 +106,7 @@ pub(crate) fn sync_found<S: Site>(
     ensures past { S.shows → file_in (folder_of (S.disk site.old)) Current ≡ Some (current_text manifest) → OnOk result (IsPastBarrier (S.disk site.new)) }
     ensures rests { S.shows → (found : Found) (m : Map) → file_in (folder_of (S.disk site.old)) Current ≡ Some (current_text manifest) → IsFoundAs found (folder_of (S.disk site.old))
         → IsSettled (S.disk site.old) → Stands (folder_of (S.disk site.old)) m → OnOk result (RestsAs found m (S.disk site.new)) }
+    ensures only { S.shows → KeepsAllButLogs (S.disk site.old) (S.disk site.new) }
     ensures no_file { S.shows → MakesNoFile (S.disk site.old) (S.disk site.new) }
     ensures before { S.shows → LeavesOnly S.clock S.left_since site.old site.new (LeavesFound (S.may_be site.old) (S.told site.old)) }
     ensures no_new { S.shows → S.certain site.old → LeavesOnly S.clock S.left_since site.old site.new (FindsNoNewFile (S.disk site.old)) }

@@ -3,6 +3,7 @@
 ghost use Rattle.std.specs.Prelude.{◌≡◌, ℕ, ◌^◌, ◌<◌, ◌≤◌, [], ◌∷◌, false, Err, IfOk, IfErr, Ok, OnOk, IsErrOf};
 ghost use Rattle.bl_site.specs.Calls.{LeavesOnly};
 ghost use Rattle.bl_site.specs.Causes.{Rose};
+ghost use Rattle.bl_site.specs.Disk.{Name};
 ghost use Rattle.bl_site.specs.Quiet.{TellsNothing};
 ghost use Rattle.bl_entry.specs.Revisions.{Map};
 ghost use Rattle.bl_edit.specs.Bounds.{IsEdit};
@@ -10,8 +11,9 @@ ghost use Rattle.bl_build.specs.Snapshots.{snapshot};
 ghost use Rattle.bl_build.specs.Versions.{IsVersion, apply};
 ghost use Rattle.bl_wal.specs.Held.{HoldsBatches};
 ghost use Rattle.bl_wal.specs.LogFile.{log_name, new_log};
-ghost use Rattle.bl_names.specs.declared.name.FileName.TheVariants.{Manifest as ManifestName};
-ghost use Rattle.bl_names.specs.Names.{IsNumber};
+ghost use Rattle.bl_names.specs.declared.name.FileName.TheVariants.{Current, Manifest as ManifestName, Temp};
+ghost use Rattle.bl_names.specs.Names.{IsNumber, manifest_name, name_of};
+ghost use Rattle.bl_out.specs.Quiet.{IsNoneOf};
 ghost use Rattle.bl_folder.specs.Flushes.{IsBelow};
 ghost use Rattle.bl_folder.specs.Holding.{Holding};
 ghost use Rattle.bl_folder.specs.Settled.{IsSettled};
@@ -20,6 +22,7 @@ ghost use Rattle.bl_open.specs.Beginning.{AddsFlush, IsBounded, IsInPlace, IsNum
 ghost use Rattle.bl_open.specs.Causes.{FailsByFolder, IsWriting};
 ghost use Rattle.bl_open.specs.Found.{Found, HasTables, IsSpareFor, RestsAs};
 ghost use Rattle.bl_open.specs.Installations.{IsInstalled};
+ghost use Rattle.bl_open.specs.Keeping.{KeepsBefore};
 ghost use Rattle.bl_open.specs.Steady.{Maps, IsSteady};
 ghost use Rattle.bl_open.specs.SteadyCalls.{begun};
 ghost use Rattle.bl_open.specs.SteadyCuts.{LeavesStanding};
@@ -98,6 +101,7 @@ fn start_store<S: Site>(
     ensures made { IfOk result (λ r. (r.0.number ≡ manifest) × (r.0.failed ≡ false) × (r.1 ≡ new_log log)) }
     ensures installed { S.shows → OnOk result (IsInstalled manifest (record { version = version.now; standing = standing.now }) (S.disk site.new)) }
     ensures empty { S.shows → OnOk result (HoldsBatches (S.disk site.new) (new_log log) [] 0) }
+    ensures others { S.shows → (name : Name) → IsNoneOf (log_name log ∷ manifest_name manifest ∷ name_of (Temp manifest) ∷ name_of Current ∷ []) name → S.disk site.new name ≡ S.disk site.old name }
     ensures steady { S.shows → (maps : Maps) (h : Holding) → HasTables maps log h (S.disk site.old) → h.live ≡ record { version = version.now; standing = standing.now }
         → IfOk result (λ r. IsSteady maps (begun r.0 (snapshot version.now standing.now ∷ []) log h 0) (S.disk site.new)) }
     ensures sides { S.shows → (found : Found) (maps : Maps) (h : Holding) → RestsAs found (maps 0) (S.disk site.old) → IsSpareFor found (ManifestName manifest)
@@ -127,6 +131,7 @@ pub(crate) fn begin<S: Site>(alloc: Global, site: &mut S, loaded: Loaded) -> Res
     requires bounded { IsBounded loaded }
     requires below { S.shows → IsBelow loaded.first loaded.version }
     ensures numbered { IfOk result (IsNumbered loaded) }
+    ensures keeps { S.shows → KeepsBefore loaded.first (S.disk site.old) (S.disk site.new) }
     ensures adds { S.shows → IfOk result (AddsFlush loaded.version loaded.memory) }
     ensures in_place { S.shows → IfOk result (λ o. IsInPlace o (S.disk site.new)) }
     ensures opened { S.shows → (found : Found) (h : Holding) (m : Map) → StartsFrom found h m loaded (S.disk site.old) → (maps : Maps) → maps 0 ≡ m → IfOk result (λ o. IsOpened maps o (S.disk site.new)) }

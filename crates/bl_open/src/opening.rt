@@ -17,6 +17,7 @@ ghost use Rattle.bl_open.specs.Answers.{IsLoading};
 ghost use Rattle.bl_open.specs.Beginning.{IsBounded, IsInPlace, IsOpened};
 ghost use Rattle.bl_open.specs.Causes.{IsWriting};
 ghost use Rattle.bl_open.specs.Damage.{NamesManifest};
+ghost use Rattle.bl_open.specs.Keeping.{KeepsFound};
 ghost use Rattle.bl_open.specs.Listing.{AreListed, AreLogs};
 ghost use Rattle.bl_open.specs.Recovering.{AnswersAsRefused, CutsAtBarrier, HasLoaded, IsTelling, TakesFresh, TakesOver};
 ghost use Rattle.bl_open.specs.Replaying.{AreLogsFrom};
@@ -55,6 +56,7 @@ fn create_among<S: Site>(
     requires fresh { S.shows → IsFresh (folder_of (S.disk site.old)) }
     ensures takes { S.shows → IfOk result (TakesFresh (folder_of (S.disk site.old)) options) }
     ensures in_place { S.shows → IfOk result (λ o. IsInPlace o (S.disk site.new)) }
+    ensures keeps { S.shows → KeepsFound result (S.disk site.old) (S.disk site.new) }
     ensures opened { S.shows → IsSettled (S.disk site.old) → (maps : Maps) → maps 0 ≡ empty → IfOk result (λ o. IsOpened maps o (S.disk site.new)) }
     ensures cuts { S.shows → IsSettled (S.disk site.old) → CutsAtBarrier S.Site empty site.old site.new }
     ensures settled { S.shows → IsSettled (S.disk site.old) → IsSettled (S.disk site.new) }
@@ -89,6 +91,7 @@ pub fn create<S: Site>(alloc: Global, site: &mut S, options: &Options) -> Result
     requires { S.shows → IsFresh (folder_of (S.disk site.old)) }
     ensures takes { S.shows → IfOk result (TakesFresh (folder_of (S.disk site.old)) options.now) }
     ensures in_place { S.shows → IfOk result (λ o. IsInPlace o (S.disk site.new)) }
+    ensures keeps { S.shows → KeepsFound result (S.disk site.old) (S.disk site.new) }
     ensures opened { S.shows → IsSettled (S.disk site.old) → (maps : Maps) → maps 0 ≡ empty → IfOk result (λ o. IsOpened maps o (S.disk site.new)) }
     ensures cuts { S.shows → IsSettled (S.disk site.old) → CutsAtBarrier S.Site empty site.old site.new }
     ensures settled { S.shows → IsSettled (S.disk site.old) → IsSettled (S.disk site.new) }
@@ -169,6 +172,7 @@ fn recover_live<S: Site>(
     requires current { S.shows → IsSome (file (folder_of (S.disk site.old)) Current) }
     ensures takes { S.shows → IfOk result (TakesOver (folder_of (S.disk site.old)) asked.now) }
     ensures in_place { S.shows → IfOk result (λ o. IsInPlace o (S.disk site.new)) }
+    ensures keeps { S.shows → KeepsFound result (S.disk site.old) (S.disk site.new) }
     ensures opened { S.shows → IsSettled (S.disk site.old) → (m : Map) → Stands (folder_of (S.disk site.old)) m → (maps : Maps) → maps 0 ≡ m → IfOk result (λ o. IsOpened maps o (S.disk site.new)) }
     ensures cuts { S.shows → IsSettled (S.disk site.old) → (m : Map) → Stands (folder_of (S.disk site.old)) m → CutsAtBarrier S.Site m site.old site.new }
     ensures settled { S.shows → IsSettled (S.disk site.old) → IsSoundFolder (folder_of (S.disk site.old)) → NoChanceMatch (folder_of (S.disk site.new)) (written_of (S.disk site.new)) → IsSettled (S.disk site.new) }
@@ -206,6 +210,7 @@ fn recover_live<S: Site>(
 pub fn recover<S: Site>(alloc: Global, site: &mut S, asked: &Asked) -> Result<Opened, OpenErr>
     ensures takes { S.shows → IfOk result (TakesOver (folder_of (S.disk site.old)) asked.now) }
     ensures in_place { S.shows → IfOk result (λ o. IsInPlace o (S.disk site.new)) }
+    ensures keeps { S.shows → KeepsFound result (S.disk site.old) (S.disk site.new) }
     ensures opened { S.shows → IsSettled (S.disk site.old) → (m : Map) → Stands (folder_of (S.disk site.old)) m → (maps : Maps) → maps 0 ≡ m → IfOk result (λ o. IsOpened maps o (S.disk site.new)) }
     ensures cuts { S.shows → IsSettled (S.disk site.old) → (m : Map) → Stands (folder_of (S.disk site.old)) m → CutsAtBarrier S.Site m site.old site.new }
     ensures settled { S.shows → IsSettled (S.disk site.old) → IsSoundFolder (folder_of (S.disk site.old)) → NoChanceMatch (folder_of (S.disk site.new)) (written_of (S.disk site.new)) → IsSettled (S.disk site.new) }

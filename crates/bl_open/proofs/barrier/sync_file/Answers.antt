@@ -1,9 +1,10 @@
 use Rattle.std.proofs.Common.{◌≡◌, ◌∙◌, ◌⊎◌, subst}
 use Rattle.bl_site.specs.Disk.{Name}
+use Rattle.bl_names.specs.Names.{name_of}
 use Rattle.bl_site.specs.Calls.{Syncs, Frays}
 use Rattle.bl_site.proofs.Images.{sync_outcome}
 use Rattle.bl_open.proofs.MomentLemmas.{synced_found, synced_new}
-use Rattle.bl_open.proofs.OutcomeLemmas.{sync_no_file, sync_settled}
+use Rattle.bl_open.proofs.OutcomeLemmas.{sync_no_file, sync_settled, synced_others}
 use Rattle.bl_open.proofs.barrier.sync_file.Given as given
 use Rattle.bl_open.proofs.barrier.sync_file.Goals as goal
 
@@ -79,3 +80,17 @@ returns-clause-kept g c = λ shown settled.
     let new = g.S.Site.disk c.sync.new.self in
     c.renames_make_disks_steady.ensures.kept c.args.file.now old new c.requires.number
     (subst (λ (n : Name). Syncs n old new) (c.as_str.ensures.value ∙ c.in_ok-name.ensures) (c.in_ok-sync.ensures.done shown)) settled
+
+pub returns-in_err-sync-clause-only : goal.returns-in_err-sync-clause-only
+returns-in_err-sync-clause-only g c = λ shown.
+    let old = g.S.Site.disk c.args.site.now in
+    let new = g.S.Site.disk c.sync.new.self in
+    synced_others (name_of c.args.file.now) old new
+    (subst (λ (n : Name). (new ≡ old) ⊎ (Syncs n old new ⊎ Frays n old new)) (c.as_str.ensures.value ∙ c.in_ok-name.ensures) (failed g c shown))
+
+pub returns-clause-only : goal.returns-clause-only
+returns-clause-only g c = λ shown.
+    let old = g.S.Site.disk c.args.site.now in
+    let new = g.S.Site.disk c.sync.new.self in
+    synced_others (name_of c.args.file.now) old new
+    (subst (λ (n : Name). (new ≡ old) ⊎ (Syncs n old new ⊎ Frays n old new)) (c.as_str.ensures.value ∙ c.in_ok-name.ensures) (done g c shown))

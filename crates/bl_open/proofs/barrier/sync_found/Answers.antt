@@ -53,3 +53,9 @@ returns-clause-no_new g c = λ shown sure.
 
 pub returns-clause-settled : goal.returns-clause-settled
 returns-clause-settled g c = λ shown settled chance. c.sync_logs.ensures.settled shown (c.in_ok-sync_file.ensures.kept shown settled) chance
+
+pub returns-in_err-sync_file-clause-only : goal.returns-in_err-sync_file-clause-only
+returns-in_err-sync_file-clause-only g c = λ shown name is. c.sync_file.ensures.only shown name (is c.args.manifest c.requires.manifest).1
+
+pub returns-clause-only : goal.returns-clause-only
+returns-clause-only g c = λ shown name is. c.sync_logs.ensures.only shown name is ∙ c.sync_file.ensures.only shown name (is c.args.manifest c.requires.manifest).1

@@ -32,6 +32,7 @@ loop-number-preserved g c =
           ];
       still = λ shown f was. (laws.syncs (Log number) one two (c.in_ok-sync_file.ensures.done shown)).2 f (i.still shown f was);
       kept = λ shown settled. c.in_ok-sync_file.ensures.kept shown (i.kept shown settled);
+      only = λ shown name is. c.sync_file.ensures.only shown name (is number (c.requires.numbers c.loop-number.number-index 0 (omega (arith, c.loop-number-test.true)))).0 ∙ i.only shown name is;
       no_file = λ shown name some. i.no_file shown name (c.sync_file.ensures.no_file shown name some);
       no_new = λ shown sure.
           then_new site c.args.site.now c.loop-number.site c.sync_file.new.site (i.no_file shown) (i.no_new shown sure)
@@ -52,6 +53,7 @@ loop-number-init g c =
       synced = λ shown k lt. absurd (omega (arith, lt));
       still = λ shown f was. was;
       kept = λ shown settled. settled;
+      only = λ shown name is. refl;
       no_file = λ shown name some. some;
       no_new = λ shown sure. none_new site old (g.met.S.Site.only_now shown old) (λ other. g.met.S.Site.only shown old other sure);
       certain = λ shown sure. sure;
@@ -81,3 +83,8 @@ returns-in_err-sync_file-clause-no_new g c = λ shown sure.
 
 pub returns-in_err-sync_file-clause-settled : goal.returns-in_err-sync_file-clause-settled
 returns-in_err-sync_file-clause-settled g c = λ shown settled chance. c.sync_file.ensures.settled shown (c.loop-number.invariant.kept shown settled) chance
+
+pub returns-in_err-sync_file-clause-only : goal.returns-in_err-sync_file-clause-only
+returns-in_err-sync_file-clause-only g c = λ shown name is.
+    let number = get_or c.args.numbers.now c.loop-number.number-index 0 in
+    c.sync_file.ensures.only shown name (is number (c.requires.numbers c.loop-number.number-index 0 (omega (arith, c.loop-number-test.true)))).0 ∙ c.loop-number.invariant.only shown name is

@@ -5,6 +5,7 @@ use Rattle.bl_site.specs.Quiet.{TellsNothing}
 use Rattle.bl_names.specs.declared.name.FileName.{FileName}
 use Rattle.bl_names.specs.declared.name.FileName.TheVariants.{Log}
 use Rattle.bl_folder.specs.Settled.{IsSettled, IsSynced}
+use Rattle.bl_open.specs.Keeping.{KeepsAllButLogs}
 use Rattle.bl_open.specs.Barrier.{FindsNoNewFile, LeavesFound, MakesNoFile}
 use Rattle.bl_open.proofs.barrier.sync_logs.Given as goal
 
@@ -16,6 +17,7 @@ invariant-loop-number g l =
       synced : site.shows → (k : ℕ) → k < l.number-index → IsSynced (site.disk l.site) (Log (get_or l.numbers k 0));
       still : site.shows → (f : FileName) → IsSynced (site.disk l.fn.site) f → IsSynced (site.disk l.site) f;
       kept : site.shows → IsSettled (site.disk l.fn.site) → IsSettled (site.disk l.site);
+      only : site.shows → KeepsAllButLogs (site.disk l.fn.site) (site.disk l.site);
       no_file : site.shows → MakesNoFile (site.disk l.fn.site) (site.disk l.site);
       no_new : site.shows → site.certain l.fn.site → LeavesOnly site.clock site.left_since l.fn.site l.site (FindsNoNewFile (site.disk l.fn.site));
       certain : site.shows → site.certain l.fn.site → site.certain l.site;

@@ -1,6 +1,7 @@
 use Rattle.std.proofs.Common.{[], ◌≡◌, ◌+◌, ◌∙◌, ◌≤◌, ℕ, ap, sym, subst, arith, refl}
 use Rattle.std.specs.Prelude.{◌^◌}
 use Rattle.bl_open.proofs.AddLemmas.{adds_flush, are_numbered}
+use Rattle.bl_open.proofs.KeepLemmas.{flush_keeps, store_keeps, then_keeps}
 use Rattle.bl_open.proofs.LoadedLemmas.{after, flush_cuts, flush_sides, live_after, manifest_spare, no_cuts, no_settled, no_sides, rests_now, settled_now, store_cuts, store_sides, tables_after}
 use Rattle.bl_open.specs.Beginning.{first_file}
 use Rattle.bl_site.specs.Calls.{LeavesOnly}
@@ -303,3 +304,33 @@ returns-clause-in_place g c = λ shown.
       numbers = are_numbered l.version l.memory l.options c.draw-2.new.self c.flush_found.new.numbers (g.S.Site.disk c.flush_found.new.site) c.in_ok-edit.edit (c.in_ok-edit.ensures.flushes shown) c.in_ok-edit.ensures.draws
           _ at_from c.next.ensures.value (at_log ∙ ap (λ n. n + 1) (sym made.0)) most l.first (omega (arith, at)) (c.requires.below shown) c.in_ok-version.ensures.next.0;
     }
+
+pub returns-in_err-edit-clause-keeps : goal.returns-in_err-edit-clause-keeps
+returns-in_err-edit-clause-keeps g c = λ shown.
+    let at : c.draw-2.new.self ≡ c.args.loaded.first + 2 = omega (arith, c.in_ok-log.ensures.drawn.2, c.in_ok-manifest.ensures.drawn.2, c.from-numbers.ensures) in
+    flush_keeps c.args.loaded.first c.draw-2.new.self (g.S.Site.disk c.args.site.now) (g.S.Site.disk c.flush_found.new.site) (omega (arith, at)) (c.flush_found.ensures.others shown)
+
+pub returns-in_err-version-clause-keeps : goal.returns-in_err-version-clause-keeps
+returns-in_err-version-clause-keeps g c = λ shown.
+    let at : c.draw-2.new.self ≡ c.args.loaded.first + 2 = omega (arith, c.in_ok-log.ensures.drawn.2, c.in_ok-manifest.ensures.drawn.2, c.from-numbers.ensures) in
+    flush_keeps c.args.loaded.first c.draw-2.new.self (g.S.Site.disk c.args.site.now) (g.S.Site.disk c.flush_found.new.site) (omega (arith, at)) (c.flush_found.ensures.others shown)
+
+pub returns-in_err-manifest-2-clause-keeps : goal.returns-in_err-manifest-2-clause-keeps
+returns-in_err-manifest-2-clause-keeps g c = λ shown.
+    let at : c.draw-2.new.self ≡ c.args.loaded.first + 2 = omega (arith, c.in_ok-log.ensures.drawn.2, c.in_ok-manifest.ensures.drawn.2, c.from-numbers.ensures) in
+    let at_manifest : c.in_ok-manifest.manifest ≡ c.args.loaded.first = c.in_ok-manifest.ensures.drawn.0 ∙ c.from-numbers.ensures in
+    let at_log : c.in_ok-log.log ≡ c.args.loaded.first + 1 = omega (arith, c.in_ok-log.ensures.drawn.0, c.in_ok-manifest.ensures.drawn.2, c.from-numbers.ensures) in
+    then_keeps c.args.loaded.first (g.S.Site.disk c.args.site.now) (g.S.Site.disk c.flush_found.new.site) (g.S.Site.disk c.start_store.new.site)
+    (flush_keeps c.args.loaded.first c.draw-2.new.self (g.S.Site.disk c.args.site.now) (g.S.Site.disk c.flush_found.new.site) (omega (arith, at)) (c.flush_found.ensures.others shown))
+    (store_keeps c.args.loaded.first c.in_ok-manifest.manifest c.in_ok-log.log (g.S.Site.disk c.flush_found.new.site) (g.S.Site.disk c.start_store.new.site) c.requires.bounded.some at_manifest at_log
+    (omega (arith, c.in_ok-log.ensures.drawn.0, c.in_ok-log.ensures.drawn.1)) (c.start_store.ensures.others shown))
+
+pub returns-clause-keeps : goal.returns-clause-keeps
+returns-clause-keeps g c = λ shown.
+    let at : c.draw-2.new.self ≡ c.args.loaded.first + 2 = omega (arith, c.in_ok-log.ensures.drawn.2, c.in_ok-manifest.ensures.drawn.2, c.from-numbers.ensures) in
+    let at_manifest : c.in_ok-manifest.manifest ≡ c.args.loaded.first = c.in_ok-manifest.ensures.drawn.0 ∙ c.from-numbers.ensures in
+    let at_log : c.in_ok-log.log ≡ c.args.loaded.first + 1 = omega (arith, c.in_ok-log.ensures.drawn.0, c.in_ok-manifest.ensures.drawn.2, c.from-numbers.ensures) in
+    then_keeps c.args.loaded.first (g.S.Site.disk c.args.site.now) (g.S.Site.disk c.flush_found.new.site) (g.S.Site.disk c.start_store.new.site)
+    (flush_keeps c.args.loaded.first c.draw-2.new.self (g.S.Site.disk c.args.site.now) (g.S.Site.disk c.flush_found.new.site) (omega (arith, at)) (c.flush_found.ensures.others shown))
+    (store_keeps c.args.loaded.first c.in_ok-manifest.manifest c.in_ok-log.log (g.S.Site.disk c.flush_found.new.site) (g.S.Site.disk c.start_store.new.site) c.requires.bounded.some at_manifest at_log
+    (omega (arith, c.in_ok-log.ensures.drawn.0, c.in_ok-log.ensures.drawn.1)) (c.start_store.ensures.others shown))

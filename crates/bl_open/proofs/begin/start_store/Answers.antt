@@ -1,3 +1,4 @@
+use Rattle.std.proofs.Common.{◌∙◌}
 use Rattle.bl_wal.specs.LogFile.{log_name}
 use Rattle.bl_open.proofs.StartLemmas.{log_may, side_before, then_side, then_stands}
 use Rattle.bl_open.proofs.begin.start_store.Goals as goal
@@ -62,3 +63,12 @@ returns-clause-settled g c = λ shown found maps h rests spare t live.
 
 pub returns-clause-steady : goal.returns-clause-steady
 returns-clause-steady g c = λ shown maps h t live. c.in_ok-made.ensures.steady shown maps c.args.log h live (c.in_ok-wal.ensures.begins shown maps h t)
+
+pub returns-in_err-wal-clause-others : goal.returns-in_err-wal-clause-others
+returns-in_err-wal-clause-others g c = λ shown name none. c.make_log.ensures.touches.others shown name (none.0, tt)
+
+pub returns-in_err-made-clause-others : goal.returns-in_err-made-clause-others
+returns-in_err-made-clause-others g c = λ shown name none. c.install_store.ensures.touches.others shown name none.1 ∙ c.make_log.ensures.touches.others shown name (none.0, tt)
+
+pub returns-clause-others : goal.returns-clause-others
+returns-clause-others g c = λ shown name none. c.install_store.ensures.touches.others shown name none.1 ∙ c.make_log.ensures.touches.others shown name (none.0, tt)

@@ -3,6 +3,7 @@ use Rattle.std.specs.FinMap.{empty}
 use Rattle.std.specs.Prelude.{IfOk}
 use Rattle.bl_site.specs.Disk.{Folder, folder_of}
 use Rattle.bl_folder.specs.Settled.{IsSettled}
+use Rattle.bl_open.proofs.KeepLemmas.{kept_before, same_kept}
 use Rattle.bl_open.proofs.OpenedLemmas.{nothing_cuts, then_cuts}
 use Rattle.bl_open.proofs.ReadLemmas.{reads_make_nothing}
 use Rattle.bl_open.specs.Recovering.{TakesFresh}
@@ -36,3 +37,10 @@ returns-clause-cuts g c = λ shown settled.
 
 pub returns-clause-settled : goal.returns-clause-settled
 returns-clause-settled g c = λ shown settled. c.create_among.ensures.settled shown (subst IsSettled (sym (c.list_files.ensures.quiet.stays shown).same) settled)
+
+pub returns-in_err-files-clause-keeps : goal.returns-in_err-files-clause-keeps
+returns-in_err-files-clause-keeps g c = λ shown. same_kept _ (g.S.Site.disk c.args.site.now) (g.S.Site.disk c.list_files.new.site) (c.list_files.ensures.quiet.stays shown).same
+
+pub returns-clause-keeps : goal.returns-clause-keeps
+returns-clause-keeps g c = λ shown.
+    kept_before c.create_among.result (g.S.Site.disk c.args.site.now) (g.S.Site.disk c.list_files.new.site) (g.S.Site.disk c.create_among.new.site) (c.list_files.ensures.quiet.stays shown).same (c.create_among.ensures.keeps shown)

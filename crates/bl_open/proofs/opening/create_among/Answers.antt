@@ -8,6 +8,7 @@ use Rattle.bl_folder.specs.Numbers.{IsFirstNumber}
 use Rattle.bl_entry.specs.declared.key.Entry.{Entry}
 use Rattle.bl_folder.specs.Flushes.{IsBelow}
 use Rattle.bl_open.proofs.AddLemmas.{nothing_added}
+use Rattle.bl_open.proofs.KeepLemmas.{begun_kept}
 use Rattle.bl_open.proofs.OpenedLemmas.{each_and, each_ok, first_is_new, nothing_passes}
 use Rattle.bl_open.proofs.StartingLemmas.{starts_fresh}
 use Rattle.bl_open.specs.Beginning.{AddsFlush, IsNumbered, first_file}
@@ -70,3 +71,11 @@ returns-clause-settled g c = λ shown settled.
     let h : Holding = no_holding (record { log_number = l.first; next_file = l.first; last_sequence = 0; options = l.options }) in
     let s = starts_fresh c.barriers_let_disks_rest.ensures.fresh c.stores_begin.ensures.fresh c.memories_tell_what_was_inserted.ensures.memory c.batches_are_held.ensures.none disk l settled (c.requires.fresh shown) is first c.empty-version.ensures c.start.ensures refl in
     c.begin.ensures.settled shown None h empty s
+
+pub returns-clause-keeps : goal.returns-clause-keeps
+returns-clause-keeps g c = λ shown.
+    let disk = g.S.Site.disk c.args.site.now in
+    let is : IsVersion nothing = subst IsVersion c.empty-version.ensures c.version_is_in_order.ensures in
+    let some : 1 ≤ 1 = omega arith in
+    let first = c.first_number.ensures.first (folder_of disk) nothing is (nothing_passes (folder_of disk)) (c.requires.listed shown) (inl some) in
+    begun_kept c.begin.result disk disk (g.S.Site.disk c.begin.new.site) nothing 1 c.first_number.result (λ name no. refl) refl first (c.begin.ensures.keeps shown)

@@ -10,6 +10,7 @@ use Rattle.bl_folder.specs.Live.{IsFresh}
 use Rattle.bl_folder.specs.Settled.{IsSettled}
 use Rattle.bl_folder.specs.Stands.{IsSoundFolder, Stands}
 use Rattle.bl_open.proofs.AnswerLemmas.{reading_not_full, reading_refused}
+use Rattle.bl_open.proofs.KeepLemmas.{kept_before, same_kept}
 use Rattle.bl_open.proofs.OpenedLemmas.{answers_before, cause_not_full, cause_silent, each_ok, fresh_is_empty, no_telling, none_if, nothing_cuts, silent_same, then_cuts}
 use Rattle.bl_open.proofs.ReadLemmas.{reads_make_nothing, then_reads}
 use Rattle.bl_open.proofs.RefusalLemmas.{due_of, fresh_not_refused, none_refused}
@@ -237,3 +238,19 @@ check_fresh-requires-clause-no_current g c = λ shown.
     let listed = subst (λ (xs : List FileName). AreListed folder xs) (sym c.deref.ensures.value) (c.in_ok-files.ensures.listed shown) in
     let none = none_if (file folder Current) (λ some. let is = (c.if-has_file.ensures.there folder listed tt).1 some in let not = c.if-has_file.false in cc (is, not)) in
     subst (λ (f : Folder). file f Current ≡ None) (sym same) none
+
+pub returns-in_err-files-clause-keeps : goal.returns-in_err-files-clause-keeps
+returns-in_err-files-clause-keeps g c = λ shown. same_kept _ (g.S.Site.disk c.args.site.now) (g.S.Site.disk c.list_files.new.site) (c.list_files.ensures.quiet.stays shown).same
+
+pub returns-then-has_file-clause-keeps : goal.returns-then-has_file-clause-keeps
+returns-then-has_file-clause-keeps g c = λ shown.
+    kept_before c.recover_live.result (g.S.Site.disk c.args.site.now) (g.S.Site.disk c.list_files.new.site) (g.S.Site.disk c.recover_live.new.site) (c.list_files.ensures.quiet.stays shown).same (c.recover_live.ensures.keeps shown)
+
+pub returns-in_err-check_fresh-clause-keeps : goal.returns-in_err-check_fresh-clause-keeps
+returns-in_err-check_fresh-clause-keeps g c = λ shown.
+    same_kept _ (g.S.Site.disk c.args.site.now) (g.S.Site.disk c.check_fresh.new.site) ((c.check_fresh.ensures.quiet.stays shown).same ∙ (c.list_files.ensures.quiet.stays shown).same)
+
+pub returns-clause-keeps : goal.returns-clause-keeps
+returns-clause-keeps g c = λ shown.
+    kept_before c.create_among.result (g.S.Site.disk c.args.site.now) (g.S.Site.disk c.check_fresh.new.site) (g.S.Site.disk c.create_among.new.site)
+    ((c.check_fresh.ensures.quiet.stays shown).same ∙ (c.list_files.ensures.quiet.stays shown).same) (c.create_among.ensures.keeps shown)

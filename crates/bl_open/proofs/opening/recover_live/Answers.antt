@@ -14,6 +14,8 @@ use Rattle.bl_records.specs.Chance.{NoChanceMatch}
 use Rattle.bl_folder.specs.Logs.{HaveBatches}
 use Rattle.bl_folder.specs.Numbers.{IsFirstNumber}
 use Rattle.bl_open.proofs.AnswerLemmas.{loading_not_full, missing_not_full, missing_refused, reading_not_full, reading_refused}
+use Rattle.bl_open.specs.Keeping.{KeepsAllButLogs}
+use Rattle.bl_open.proofs.KeepLemmas.{begun_kept, failed_kept, same_kept, synced_kept}
 use Rattle.bl_open.proofs.OpenedLemmas.{cause_not_full, cause_silent, each_and, each_ok, first_is_new, no_telling, nothing_cuts, silent_same, some_in, the_logs, then_cuts}
 use Rattle.bl_open.proofs.ReadLemmas.{reads_make_nothing, then_nothing, then_reads}
 use Rattle.bl_open.proofs.RefusalLemmas.{due_of, loaded_not_refused, none_refused}
@@ -363,3 +365,40 @@ begin-requires-clause-below g c = λ shown.
     let loaded = c.in_ok-loaded.ensures.loaded shown in
     let above = loaded.first.above in
     subst (IsBelow c.in_ok-loaded.loaded.first) loaded.version_is (record { tables = above.tables; blobs = above.blobs })
+
+pub returns-in_err-manifest-clause-keeps : goal.returns-in_err-manifest-clause-keeps
+returns-in_err-manifest-clause-keeps g c = λ shown. same_kept _ (g.S.Site.disk c.args.site.now) (g.S.Site.disk c.read_current.new.site) (c.read_current.ensures.quiet.stays shown).same
+
+pub returns-in_err-check_manifest-clause-keeps : goal.returns-in_err-check_manifest-clause-keeps
+returns-in_err-check_manifest-clause-keeps g c = λ shown. same_kept _ (g.S.Site.disk c.args.site.now) (g.S.Site.disk c.read_current.new.site) (c.read_current.ensures.quiet.stays shown).same
+
+pub returns-in_err-logs-clause-keeps : goal.returns-in_err-logs-clause-keeps
+returns-in_err-logs-clause-keeps g c = λ shown. same_kept _ (g.S.Site.disk c.args.site.now) (g.S.Site.disk c.read_current.new.site) (c.read_current.ensures.quiet.stays shown).same
+
+pub returns-in_err-sync_found-clause-keeps : goal.returns-in_err-sync_found-clause-keeps
+returns-in_err-sync_found-clause-keeps g c = λ shown.
+    let site = g.S.Site in
+    let p = err_from_is_err_and c.from_residual-in_err-sync_found.result c.from_residual-in_err-sync_found.ensures.1 in
+    failed_kept c.from_residual-in_err-sync_found.result (site.disk c.args.site.now) (site.disk c.sync_found.new.site) p.0 p.1
+    (subst (λ (d : Disk). KeepsAllButLogs d (site.disk c.sync_found.new.site)) (c.read_current.ensures.quiet.stays shown).same (c.sync_found.ensures.only shown))
+
+pub returns-in_err-loaded-clause-keeps : goal.returns-in_err-loaded-clause-keeps
+returns-in_err-loaded-clause-keeps g c = λ shown.
+    let site = g.S.Site in
+    let stays = (c.read_current.ensures.quiet.stays shown).same in
+    let read = (c.load.ensures.quiet.stays shown).same in
+    synced_kept _ (site.disk c.args.site.now) (site.disk c.load.new.site)
+    (subst (λ (d : Disk). KeepsAllButLogs (site.disk c.args.site.now) d) (sym read) (subst (λ (d : Disk). KeepsAllButLogs d (site.disk c.sync_found.new.site)) stays (c.sync_found.ensures.only shown)))
+    (ap folder_of read ∙ c.in_ok-sync_found.ensures.same shown ∙ ap folder_of stays)
+
+pub returns-clause-keeps : goal.returns-clause-keeps
+returns-clause-keeps g c = λ shown.
+    let site = g.S.Site in
+    let stays = (c.read_current.ensures.quiet.stays shown).same in
+    let read = (c.load.ensures.quiet.stays shown).same in
+    let same : folder_of (site.disk c.sync_found.new.site) ≡ folder_of (site.disk c.args.site.now) = c.in_ok-sync_found.ensures.same shown ∙ ap folder_of stays in
+    let loaded = c.in_ok-loaded.ensures.loaded shown in
+    let first = subst (λ (f : Folder). IsFirstNumber f loaded.live.version loaded.live.standing.next_file c.in_ok-loaded.loaded.first) same loaded.first in
+    begun_kept c.begin.result (site.disk c.args.site.now) (site.disk c.load.new.site) (site.disk c.begin.new.site) loaded.live.version loaded.live.standing.next_file c.in_ok-loaded.loaded.first
+    (subst (λ (d : Disk). KeepsAllButLogs (site.disk c.args.site.now) d) (sym read) (subst (λ (d : Disk). KeepsAllButLogs d (site.disk c.sync_found.new.site)) stays (c.sync_found.ensures.only shown)))
+    (ap folder_of read ∙ same) first (c.begin.ensures.keeps shown)
