@@ -15,7 +15,7 @@ use Rattle.bl_cache.specs.Reading.{read_run}
 abbrev pub is_key : Key → Bool
 is_key k = nat_le 1 (length k.user) && nat_le (length k.user) max_key && nat_le k.seq max_seq
 
--- each key stands before those behind it
+-- each key is in bounds, and stands before those behind it
 abbrev pub is_run : List Entry → Bool
 is_run [] = true
 is_run (e ∷ es) = is_key e.key && list_all (stands_before e) es && is_run es
