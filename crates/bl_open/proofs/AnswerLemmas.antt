@@ -16,7 +16,7 @@ use Rattle.bl_open.specs.Answers.{IsLoading, IsReading}
 use Rattle.bl_open.specs.Causes.{of_manifest}
 use Rattle.bl_open.specs.Damage.{NamesManifest}
 use Rattle.bl_open.specs.Options.{Words, check_option, check_options}
-use Rattle.bl_open.specs.Recovering.{IsRefused, IsTelling}
+use Rattle.bl_open.specs.Recovering.{IsRefused, IsRefusal}
 use Rattle.bl_open.specs.declared.error.OpenErr.{OpenErr}
 use Rattle.bl_open.specs.declared.error.OpenErr.TheVariants.{Disk, Corrupt, Full, Differ, OutOfMemory}
 
@@ -29,9 +29,9 @@ some_of o x e = subst IsSome (sym e) refl
 -- ---- the manifest
 
 pub manifest_refused : (folder : Folder) (words : Words) (number : ℕ) (e : ManifestErr) (f : OpenErr) → NamesManifest folder number → f ≡ of_manifest e
-    → ((name : Name) (place : ℕ) → e ≡ manifest.Corrupt name place → (name ≡ manifest_name number) × IsManifestDamaged folder number place) → IsTelling f → IsRefused folder words f
-manifest_refused folder words number manifest.Disk f named is corrupt tells = absurd (subst IsTelling is tells)
-manifest_refused folder words number manifest.OutOfMemory f named is corrupt tells = absurd (subst IsTelling is tells)
+    → ((name : Name) (place : ℕ) → e ≡ manifest.Corrupt name place → (name ≡ manifest_name number) × IsManifestDamaged folder number place) → IsRefusal f → IsRefused folder words f
+manifest_refused folder words number manifest.Disk f named is corrupt tells = absurd (subst IsRefusal is tells)
+manifest_refused folder words number manifest.OutOfMemory f named is corrupt tells = absurd (subst IsRefusal is tells)
 manifest_refused folder words number (manifest.Corrupt name place) f named is corrupt tells =
     let at = corrupt name place refl in
     subst (IsRefused folder words) (sym is) (inl (inr (inr (number, named, at.0, at.1))))
@@ -43,8 +43,8 @@ manifest_not_full manifest.OutOfMemory f n is full = cc (is, full)
 
 -- it is not there
 pub missing_refused : (folder : Folder) (words : Words) (number : ℕ) (f : OpenErr) → NamesManifest folder number → (f ≡ OutOfMemory) ⊎ (f ≡ Corrupt (manifest_name number) 0)
-    → ((name : Name) (place : ℕ) → f ≡ Corrupt name place → file folder (Manifest number) ≡ None) → IsTelling f → IsRefused folder words f
-missing_refused folder words number f named (inl is) absent tells = absurd (subst IsTelling is tells)
+    → ((name : Name) (place : ℕ) → f ≡ Corrupt name place → file folder (Manifest number) ≡ None) → IsRefusal f → IsRefused folder words f
+missing_refused folder words number f named (inl is) absent tells = absurd (subst IsRefusal is tells)
 missing_refused folder words number f named (inr is) absent tells =
     subst (IsRefused folder words) (sym is) (inl (inr (inr (number, named, refl, inl (absent (manifest_name number) 0 is, refl)))))
 
@@ -121,7 +121,7 @@ words_not_disk v w f e disk = subst IsDiffer disk (differ_of v w f e)
 
 -- ---- the files and the logs
 
-pub reading_refused : (folder : Folder) (words : Words) (f : OpenErr) → IsReading f → ((name : Name) (place : ℕ) → f ≡ Corrupt name place → IsRefused folder words (Corrupt name place)) → IsTelling f → IsRefused folder words f
+pub reading_refused : (folder : Folder) (words : Words) (f : OpenErr) → IsReading f → ((name : Name) (place : ℕ) → f ≡ Corrupt name place → IsRefused folder words (Corrupt name place)) → IsRefusal f → IsRefused folder words f
 reading_refused folder words Disk reading corrupt tells = absurd tells
 reading_refused folder words (Corrupt name place) reading corrupt tells = corrupt name place refl
 reading_refused folder words (Full next) reading corrupt tells = absurd reading

@@ -28,7 +28,7 @@ use Rattle.bl_folder.specs.Live.{IsFresh, IsLive}
 use Rattle.bl_open.specs.declared.checks.Expected.{Expected}
 use Rattle.bl_open.specs.declared.checks.Expected.TheVariants.{Table, Blob}
 use Rattle.bl_open.specs.Checks.{FilesFail, check_in, files_of, named, place_of}
-use Rattle.bl_open.specs.Damage.{HoldingFails, LacksLive, NamesManifest, NamesNone}
+use Rattle.bl_open.specs.Damage.{FilesOrLogsFail, LacksLive, NamesManifest, NamesNone}
 use Rattle.bl_open.specs.DamageLaws.{DamageIsOne, FailingDoNotPass, FailureIsOne, LackingAreNotFresh, LackingAreNotLive}
 use Rattle.bl_open.specs.Listing.{IsFirstStray, IsStrayFile}
 use Rattle.bl_open.proofs.BreakLemmas.{PlacedAreRecords, log_is, logs_fail_once}
@@ -201,7 +201,7 @@ lacking_once names law folder name other place at (inr (inr a)) (inr (inr b)) =
     let same : a.0 ≡ b.0 = names_one names folder a.0 b.0 a.1 b.1 in
     (a.2 ∙ ap manifest_name same ∙ sym b.2, damaged_once law folder b.0 place at (subst (λ m. ManifestIsDamaged folder m place) same a.3) b.3)
 
-holding_once : BatchesJoin → PlacedAreRecords → (folder : Folder) (live : Restored) → IsVersion live.version → (name other : Name) (place at : ℕ) → HoldingFails folder live name place → HoldingFails folder live other at
+holding_once : BatchesJoin → PlacedAreRecords → (folder : Folder) (live : Restored) → IsVersion live.version → (name other : Name) (place at : ℕ) → FilesOrLogsFail folder live name place → FilesOrLogsFail folder live other at
     → (name ≡ other) × (place ≡ at)
 holding_once join placed folder live is name other place at (inl a) (inl b) = failure_one folder live.version name other place at is a b
 holding_once join placed folder live is name other place at (inl a) (inr b) = absurd (fail_or_pass folder live.version name place a b.0)
@@ -214,4 +214,4 @@ damage_one join placed names places faulty one version folder name other place a
 damage_one join placed names places faulty one version folder name other place at (inr a) (inl b) = absurd (lacking_not_live names faulty folder other at a.0 a.1.0 b a.1.1)
 damage_one join placed names places faulty one version folder name other place at (inr a) (inr b) =
     let same : a.1.0 ≡ b.1.0 = (one folder a.0 b.0 a.1.0 b.1.0 a.1.1 b.1.1).1 in
-    holding_once join placed folder a.1.0 (version folder a.0 a.1.0 a.1.1) name other place at a.1.2 (subst (λ (l : Restored). HoldingFails folder l other at) (sym same) b.1.2)
+    holding_once join placed folder a.1.0 (version folder a.0 a.1.0 a.1.1) name other place at a.1.2 (subst (λ (l : Restored). FilesOrLogsFail folder l other at) (sym same) b.1.2)

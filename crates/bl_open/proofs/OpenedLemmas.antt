@@ -21,7 +21,7 @@ use Rattle.bl_open.specs.Causes.{IsWriting}
 use Rattle.bl_open.specs.Checks.{AllPass}
 use Rattle.bl_open.specs.Listing.{AreLogs}
 use Rattle.bl_open.specs.Options.{Words}
-use Rattle.bl_open.specs.Recovering.{AnswersAsRefused, CutsAtBarrier, IsTelling}
+use Rattle.bl_open.specs.Recovering.{AnswersAsRefused, CutsAtBarrier, IsRefusal}
 use Rattle.bl_open.specs.declared.error.OpenErr.{OpenErr}
 use Rattle.bl_open.specs.declared.error.OpenErr.TheVariants.{Disk as DiskFailed, Full, OutOfMemory}
 
@@ -64,24 +64,24 @@ fresh_is_empty folder m fresh (inl stands) = stands.1
 fresh_is_empty folder m fresh (inr live) = let a = fresh.current in let b = live.holds.live.current in absurd (cc (a, b))
 
 -- what fails by the folder, or for want of memory, tells nothing
-pub cause_silent : (e : OpenErr) → IsCause DiskFailed OutOfMemory e → IsTelling e → ⊥
-cause_silent e (inl is) tells = subst IsTelling is tells
-cause_silent e (inr is) tells = subst IsTelling is tells
+pub cause_silent : (e : OpenErr) → IsCause DiskFailed OutOfMemory e → IsRefusal e → ⊥
+cause_silent e (inl is) tells = subst IsRefusal is tells
+cause_silent e (inr is) tells = subst IsRefusal is tells
 
 pub cause_not_full : (e : OpenErr) (n : ℕ) → IsCause DiskFailed OutOfMemory e → e ≡ Full n → ⊥
 cause_not_full e n (inl is) full = cc (is, full)
 cause_not_full e n (inr is) full = cc (is, full)
 
-pub writing_silent : (e : OpenErr) → IsWriting e → IsTelling e → ⊥
-writing_silent e (inl is) tells = subst IsTelling is tells
-writing_silent e (inr (inl is)) tells = subst IsTelling is tells
-writing_silent e (inr (inr is)) tells = subst IsTelling is tells
+pub writing_silent : (e : OpenErr) → IsWriting e → IsRefusal e → ⊥
+writing_silent e (inl is) tells = subst IsRefusal is tells
+writing_silent e (inr (inl is)) tells = subst IsRefusal is tells
+writing_silent e (inr (inr is)) tells = subst IsRefusal is tells
 
 -- an answer that is none of an error
-pub no_telling : {T : Type 0} (r : Result T OpenErr) → IfErr r IsWriting → (e : OpenErr) → r ≡ Err e → IsTelling e → ⊥
+pub no_telling : {T : Type 0} (r : Result T OpenErr) → IfErr r IsWriting → (e : OpenErr) → r ≡ Err e → IsRefusal e → ⊥
 no_telling r causes e is tells = writing_silent e (subst (λ x. IfErr x IsWriting) is causes) tells
 
-pub silent_same : {T : Type 0} (P : Type 0) (r : Result T OpenErr) → IfErr r IsWriting → IfErr r (λ e. IsTelling e → P)
+pub silent_same : {T : Type 0} (P : Type 0) (r : Result T OpenErr) → IfErr r IsWriting → IfErr r (λ e. IsRefusal e → P)
 silent_same P (Ok x) causes = tt
 silent_same P (Err e) causes = λ tells. absurd (writing_silent e causes tells)
 

@@ -7,7 +7,7 @@ use Rattle.bl_folder.specs.Live.{IsFresh, IsLive}
 use Rattle.bl_open.specs.Damage.{IsDamaged}
 use Rattle.bl_open.specs.DamageLaws.{DamageIsOne, LackingAreNotFresh, LackingAreNotLive, PassingAreNotDamaged}
 use Rattle.bl_open.specs.Options.{Words, check_options}
-use Rattle.bl_open.specs.Recovering.{AnswersAsRefused, AnswersOnly, HasLoaded, IsRefused, IsTelling}
+use Rattle.bl_open.specs.Recovering.{AnswersAsRefused, AnswersOnly, HasLoaded, IsRefused, IsRefusal}
 use Rattle.bl_open.specs.declared.begin.Loaded.{Loaded}
 use Rattle.bl_open.specs.declared.error.OpenErr.{OpenErr}
 use Rattle.bl_open.specs.declared.error.OpenErr.TheVariants.{Disk, Corrupt, Full, Differ, OutOfMemory}
@@ -69,10 +69,10 @@ loaded_not_refused one lacking passing folder manifest words l (Differ option st
     (ap (λ (r : Restored). check_options r.standing.options words) (one folder n manifest live h.live is h.is_live).1 ∙ h.agree) differs
 
 -- what tells, where it is right, is due
-pub due_of : {T : Type 0} → DamageIsOne → LiveIsOne → LackingAreNotLive → (folder : Folder) (words : Words) (f : OpenErr) (result : Result T OpenErr) → result ≡ Err f → (IsTelling f → IsRefused folder words f)
+pub due_of : {T : Type 0} → DamageIsOne → LiveIsOne → LackingAreNotLive → (folder : Folder) (words : Words) (f : OpenErr) (result : Result T OpenErr) → result ≡ Err f → (IsRefusal f → IsRefused folder words f)
     → ((n : ℕ) → f ≡ Full n → (e : OpenErr) → IsRefused folder words e → ⊥) → AnswersAsRefused folder words result
 due_of {T} one live lacking folder words f result is only full = record {
-  only = λ e told telling. let same : f ≡ e = err_same (sym is ∙ told) in subst (IsRefused folder words) same (only (subst IsTelling (sym same) telling));
+  only = λ e told telling. let same : f ≡ e = err_same (sym is ∙ told) in subst (IsRefused folder words) same (only (subst IsRefusal (sym same) telling));
   due = λ e refused. subst (AnswersOnly e) (sym is) (by f refl e refused);
 }
   where
@@ -83,11 +83,11 @@ due_of {T} one live lacking folder words f result is only full = record {
     by Disk q e refused = inr (inl refl)
     by OutOfMemory q e refused = inr (inr refl)
     by (Full next) q e refused = absurd (full next q e refused)
-    by (Corrupt name place) q e refused = inl (refusal_is_one one live lacking folder words (Corrupt name place) e (subst (IsRefused folder words) q (only (subst IsTelling (sym q) tt))) refused)
-    by (Differ option stored asked) q e refused = inl (refusal_is_one one live lacking folder words (Differ option stored asked) e (subst (IsRefused folder words) q (only (subst IsTelling (sym q) tt))) refused)
+    by (Corrupt name place) q e refused = inl (refusal_is_one one live lacking folder words (Corrupt name place) e (subst (IsRefused folder words) q (only (subst IsRefusal (sym q) tt))) refused)
+    by (Differ option stored asked) q e refused = inl (refusal_is_one one live lacking folder words (Differ option stored asked) e (subst (IsRefused folder words) q (only (subst IsRefusal (sym q) tt))) refused)
 
 -- where nothing is refused, nothing is told
-pub none_refused : {T : Type 0} → (folder : Folder) (words : Words) (result : Result T OpenErr) → ((e : OpenErr) → result ≡ Err e → IsTelling e → ⊥) → ((e : OpenErr) → IsRefused folder words e → ⊥) → AnswersAsRefused folder words result
+pub none_refused : {T : Type 0} → (folder : Folder) (words : Words) (result : Result T OpenErr) → ((e : OpenErr) → result ≡ Err e → IsRefusal e → ⊥) → ((e : OpenErr) → IsRefused folder words e → ⊥) → AnswersAsRefused folder words result
 none_refused folder words result silent none = record {
   only = λ e told telling. absurd (silent e told telling);
   due = λ e refused. absurd (none e refused);

@@ -40,7 +40,7 @@ use Rattle.bl_manifest.specs.Laws.{FaultyDoNotRestore}
 use Rattle.bl_open.specs.declared.checks.Expected.{Expected}
 use Rattle.bl_open.specs.declared.checks.Expected.TheVariants.{Table, Blob}
 use Rattle.bl_open.specs.Checks.{AllPass, check_blob, check_footer, check_header, check_in, check_table, files_of, if_there, named, passed}
-use Rattle.bl_open.specs.Damage.{HoldingFails}
+use Rattle.bl_open.specs.Damage.{FilesOrLogsFail}
 use Rattle.bl_open.specs.DamageLaws.{FirstNumberIs, FreshAreNotDamaged, PassingAreNotDamaged, SoundAreNotDamaged}
 use Rattle.bl_open.proofs.BreakLemmas.{PlacedAreRecords, failing_have_none}
 use Rattle.bl_open.proofs.DamageLemmas.{fail_or_pass, lacking_not_fresh, lacking_not_live}
@@ -134,7 +134,7 @@ pub passing_not_damaged : BatchesJoin → PlacedAreRecords → TextNamesOne → 
 passing_not_damaged join placed names faulty one folder name place manifest live batches last is pass have (inl lacks) = lacking_not_live names faulty folder name place manifest live lacks is
 passing_not_damaged join placed names faulty one folder name place manifest live batches last is pass have (inr d) =
     let same : d.1.0 ≡ live = (one folder d.0 manifest d.1.0 live d.1.1 is).1 in
-    let fails : HoldingFails folder live name place = subst (λ (l : Restored). HoldingFails folder l name place) same d.1.2 in
+    let fails : FilesOrLogsFail folder live name place = subst (λ (l : Restored). FilesOrLogsFail folder l name place) same d.1.2 in
     elim fails [
       | inl f ↦ fail_or_pass folder live.version name place f pass
       | inr f ↦ failing_have_none join placed folder live.standing.log_number live.standing.last_sequence name place batches last f.1 have

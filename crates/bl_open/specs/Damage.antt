@@ -31,8 +31,8 @@ LacksLive folder name place =
     ⊎ ((manifest : ℕ) × NamesManifest folder manifest × (name ≡ manifest_name manifest) × IsManifestDamaged folder manifest place))
 
 -- What a live part names does not hold: the first of the version's files that fails, or, where all pass, the first log that breaks off.
-abbrev pub HoldingFails : Folder → Restored → Name → ℕ → Type 0
-HoldingFails folder live name place =
+abbrev pub FilesOrLogsFail : Folder → Restored → Name → ℕ → Type 0
+FilesOrLogsFail folder live name place =
     FilesFail folder live.version name place
     ⊎ (AllPass folder live.version × LogsFail folder live.standing.log_number live.standing.last_sequence name place)
 
@@ -40,4 +40,4 @@ HoldingFails folder live name place =
 abbrev pub IsDamaged : Folder → Name → ℕ → Type 0
 IsDamaged folder name place =
     LacksLive folder name place
-    ⊎ ((manifest : ℕ) × ((live : Restored) × IsLive folder manifest live × HoldingFails folder live name place))
+    ⊎ ((manifest : ℕ) × ((live : Restored) × IsLive folder manifest live × FilesOrLogsFail folder live name place))

@@ -16,7 +16,7 @@ use Rattle.bl_folder.specs.Flushes.{IsMemoryOf}
 use Rattle.bl_open.specs.Barrier.{IsNewFile, IsOnEitherSide, LeavesFound}
 use Rattle.bl_open.specs.Beginning.{AddsFlush}
 use Rattle.bl_open.specs.Checks.{AllPass}
-use Rattle.bl_open.specs.Damage.{HoldingFails, LacksLive}
+use Rattle.bl_open.specs.Damage.{FilesOrLogsFail, LacksLive}
 use Rattle.bl_open.specs.Options.{Words, check_options, defaults, given_or}
 use Rattle.bl_open.specs.Replaying.{HasReplayedLogs}
 use Rattle.bl_open.specs.declared.begin.Loaded.{Loaded}
@@ -39,7 +39,7 @@ pub record HasLoaded (folder : Folder) (manifest : ℕ) (words : Words) (l : Loa
 abbrev pub IsRefused : Folder → Words → OpenErr → Type 0
 IsRefused folder words (Corrupt name place) =
     LacksLive folder name place
-    ⊎ ((manifest : ℕ) × ((live : Restored) × IsLive folder manifest live × (check_options live.standing.options words ≡ Ok tt) × HoldingFails folder live name place))
+    ⊎ ((manifest : ℕ) × ((live : Restored) × IsLive folder manifest live × (check_options live.standing.options words ≡ Ok tt) × FilesOrLogsFail folder live name place))
 IsRefused folder words (Differ option stored asked) =
     (manifest : ℕ) × ((live : Restored) × IsLive folder manifest live × (check_options live.standing.options words ≡ Err (Differ option stored asked)))
 IsRefused folder words DiskFailed = ⊥
@@ -47,12 +47,12 @@ IsRefused folder words (Full next) = ⊥
 IsRefused folder words OutOfMemory = ⊥
 
 -- an answer that tells what is wrong with the folder or with the words
-abbrev pub IsTelling : OpenErr → Type 0
-IsTelling (Corrupt name place) = Unit {0}
-IsTelling (Differ option stored asked) = Unit {0}
-IsTelling DiskFailed = ⊥
-IsTelling (Full next) = ⊥
-IsTelling OutOfMemory = ⊥
+abbrev pub IsRefusal : OpenErr → Type 0
+IsRefusal (Corrupt name place) = Unit {0}
+IsRefusal (Differ option stored asked) = Unit {0}
+IsRefusal DiskFailed = ⊥
+IsRefusal (Full next) = ⊥
+IsRefusal OutOfMemory = ⊥
 
 -- this is answered, unless the disk failed or memory ran out
 abbrev pub AnswersOnly : {T : Type 0} → OpenErr → Result T OpenErr → Type 0
@@ -61,7 +61,7 @@ AnswersOnly e (Err f) = (f ≡ e) ⊎ ((f ≡ DiskFailed) ⊎ (f ≡ OutOfMemory
 
 -- Corrupt and Differ are answered exactly where the opening is refused so, unless the disk failed or memory ran out.
 pub record AnswersAsRefused {T : Type 0} (folder : Folder) (words : Words) (result : Result T OpenErr) : Type 0 where
-  pub only : (e : OpenErr) → result ≡ Err e → IsTelling e → IsRefused folder words e
+  pub only : (e : OpenErr) → result ≡ Err e → IsRefusal e → IsRefused folder words e
   pub due : (e : OpenErr) → IsRefused folder words e → AnswersOnly e result
 
 -- A store was begun in a fresh folder with these options, and its manifest has the first number. It has no table and no blob file, and the next number follows the log's.

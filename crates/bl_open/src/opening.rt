@@ -19,7 +19,7 @@ ghost use Rattle.bl_open.specs.Causes.{IsWriting};
 ghost use Rattle.bl_open.specs.Damage.{NamesManifest};
 ghost use Rattle.bl_open.specs.Keeping.{KeepsFound};
 ghost use Rattle.bl_open.specs.Listing.{AreListed, AreLogs};
-ghost use Rattle.bl_open.specs.Recovering.{AnswersAsRefused, CutsAtBarrier, HasLoaded, IsTelling, TakesFresh, TakesOver};
+ghost use Rattle.bl_open.specs.Recovering.{AnswersAsRefused, CutsAtBarrier, HasLoaded, IsRefusal, TakesFresh, TakesOver};
 ghost use Rattle.bl_open.specs.Replaying.{AreLogsFrom};
 ghost use Rattle.bl_open.specs.Steady.{Maps};
 
@@ -178,7 +178,7 @@ fn recover_live<S: Site>(
     ensures settled { S.shows → IsSettled (S.disk site.old) → IsSoundFolder (folder_of (S.disk site.old)) → NoChanceMatch (folder_of (S.disk site.new)) (written_of (S.disk site.new)) → IsSettled (S.disk site.new) }
     ensures certain { S.shows → OnOk result (S.certain site.new) }
     ensures answers { S.shows → AnswersAsRefused (folder_of (S.disk site.old)) asked.now result }
-    ensures same { S.shows → IfErr result (λ e. IsTelling e → folder_of (S.disk site.new) ≡ folder_of (S.disk site.old)) }
+    ensures same { S.shows → IfErr result (λ e. IsRefusal e → folder_of (S.disk site.new) ≡ folder_of (S.disk site.old)) }
     ensures full { (n : ℕ) → result ≡ Err (OpenErr.Full n) → n ≡ 10 ^ 15 }
     ensures tells_nothing { TellsNothing S.Site site.old site.new }
     ensures disk { IsErrOf result OpenErr.Disk → Rose (S.disk_faults site.old) (S.disk_faults site.new) }
@@ -216,7 +216,7 @@ pub fn recover<S: Site>(alloc: Global, site: &mut S, asked: &Asked) -> Result<Op
     ensures settled { S.shows → IsSettled (S.disk site.old) → IsSoundFolder (folder_of (S.disk site.old)) → NoChanceMatch (folder_of (S.disk site.new)) (written_of (S.disk site.new)) → IsSettled (S.disk site.new) }
     ensures certain { S.shows → OnOk result (S.certain site.new) }
     ensures answers { S.shows → AnswersAsRefused (folder_of (S.disk site.old)) asked.now result }
-    ensures same { S.shows → IfErr result (λ e. IsTelling e → folder_of (S.disk site.new) ≡ folder_of (S.disk site.old)) }
+    ensures same { S.shows → IfErr result (λ e. IsRefusal e → folder_of (S.disk site.new) ≡ folder_of (S.disk site.old)) }
     ensures full { (n : ℕ) → result ≡ Err (OpenErr.Full n) → n ≡ 10 ^ 15 }
     ensures tells_nothing { TellsNothing S.Site site.old site.new }
     ensures disk { IsErrOf result OpenErr.Disk → Rose (S.disk_faults site.old) (S.disk_faults site.new) }

@@ -19,7 +19,7 @@ use Rattle.bl_names.specs.declared.name.FileName.{FileName}
 use Rattle.bl_names.specs.declared.name.FileName.TheVariants.{Current}
 use Rattle.bl_out.specs.Files.{file}
 use Rattle.bl_open.specs.Listing.{AreListed, IsFirstStray}
-use Rattle.bl_open.specs.Recovering.{CutsAtBarrier, IsTelling, TakesFresh, TakesOver}
+use Rattle.bl_open.specs.Recovering.{CutsAtBarrier, IsRefusal, TakesFresh, TakesOver}
 use Rattle.bl_open.specs.declared.error.OpenErr.TheVariants.{Disk as DiskFailed, OutOfMemory}
 use Rattle.bl_open.proofs.opening.recover.Goals as goal
 
@@ -109,7 +109,7 @@ returns-then-has_file-clause-same g c = λ shown.
     let s1 = c.list_files.new.site in
     let stays1 : site.disk s1 ≡ site.disk s0 = (c.list_files.ensures.quiet.stays shown).same in
     let same1 : folder_of (site.disk s1) ≡ folder_of (site.disk s0) = ap folder_of stays1 in
-    subst (λ (f : Folder). IfErr c.recover_live.result (λ e. IsTelling e → folder_of (site.disk c.recover_live.new.site) ≡ f)) same1 (c.recover_live.ensures.same shown)
+    subst (λ (f : Folder). IfErr c.recover_live.result (λ e. IsRefusal e → folder_of (site.disk c.recover_live.new.site) ≡ f)) same1 (c.recover_live.ensures.same shown)
 
 pub returns-in_err-check_fresh-clause-cuts : goal.returns-in_err-check_fresh-clause-cuts
 returns-in_err-check_fresh-clause-cuts g c = λ shown settled m stands.

@@ -26,7 +26,7 @@ use Rattle.bl_open.specs.Beginning.{AddsFlush, IsNumbered, first_file}
 use Rattle.bl_open.specs.Damage.{NamesManifest}
 use Rattle.bl_open.specs.Found.{RestsAs}
 use Rattle.bl_open.specs.Listing.{AreListed, AreLogs}
-use Rattle.bl_open.specs.Recovering.{HasLoaded, IsRefused, IsTelling, TakesLive, TakesOver}
+use Rattle.bl_open.specs.Recovering.{HasLoaded, IsRefused, IsRefusal, TakesLive, TakesOver}
 use Rattle.bl_open.specs.declared.error.OpenErr.TheVariants.{Disk as DiskFailed, Corrupt, OutOfMemory}
 use Rattle.bl_open.proofs.opening.recover_live.Goals as goal
 
@@ -216,7 +216,7 @@ returns-in_err-loaded-clause-answers g c = λ shown.
     let folder = folder_of (site.disk s0) in
     let p = err_from_is_err_and c.from_residual-in_err-loaded.result c.from_residual-in_err-loaded.ensures.1 in
     let loading = subst IsLoading (sym p.2) c.in_err-loaded.ensures.causes in
-    let refused = λ (tells : IsTelling p.0). subst (λ (f : Folder). IsRefused f c.args.asked.now p.0) same2 ((c.load.ensures.answers shown).only p.0 (c.in_err-loaded.was ∙ ap Err (sym p.2)) tells) in
+    let refused = λ (tells : IsRefusal p.0). subst (λ (f : Folder). IsRefused f c.args.asked.now p.0) same2 ((c.load.ensures.answers shown).only p.0 (c.in_err-loaded.was ∙ ap Err (sym p.2)) tells) in
     due_of c.damage_is_one.ensures.one c.folders_stand_for_one_map.ensures.live c.lacking_folders_are_not_live.ensures.live folder c.args.asked.now p.0 c.from_residual-in_err-loaded.result p.1 refused
     (λ n full. absurd (loading_not_full p.0 n loading full))
 
