@@ -98,6 +98,9 @@ left_there (Some x) p l some = refl
 pub no_new_in : (disk : Disk) (told : List ℕ) (c : Cut) → IsCut disk told c → FindsNoNewFile disk c
 no_new_in disk told c is name some = left_there (disk name) (c.folder name) (is.image name) some
 
+none_some : IsSome {T = File} None → ⊥
+none_some e = cc e
+
 -- ---- moments
 
 module _ {D : Type 0} (g : Ghosts D) where
@@ -184,16 +187,27 @@ module _ {D : Type 0} (g : Ghosts D) where
       joins g.clock g.left_since old mid new (BeforeBarrier name (g.may_be old) (g.told old)) (all_before name old mid first)
       (widened g.clock g.left_since mid new (BeforeBarrier name (g.may_be mid) (g.told mid)) (BeforeBarrier name (g.may_be old) (g.told old)) (before_then name old mid counts same first) second)
 
-  -- a cut that finds no new file does not find the first one
-  pub not_behind : (name : Name) (m : Map) (old new : D) → (IsSome (g.disk old name) → ⊥) → LeavesOnly g.clock g.left_since old new (FindsNoNewFile (g.disk old))
-      → LeavesOnly g.clock g.left_since old new (StandsBehind name m (g.told old))
-  not_behind name m old new none leaves = widened g.clock g.left_since old new (FindsNoNewFile (g.disk old)) (StandsBehind name m (g.told old)) (λ c finds some. absurd (none (finds name some))) leaves
+  -- a cut that finds no new file
+  pub not_behind : (m : Map) (old new : D) → LeavesOnly g.clock g.left_since old new (FindsNoNewFile (g.disk old)) → LeavesOnly g.clock g.left_since old new (StandsBehind (g.disk old) m (g.told old))
+  not_behind m old new leaves =
+      widened g.clock g.left_since old new (FindsNoNewFile (g.disk old)) (StandsBehind (g.disk old) m (g.told old)) (λ c finds name none some. absurd (none_some (subst IsSome none (finds name some)))) leaves
 
-  pub then_behind : (name : Name) (m : Map) (old mid new : D) → g.told mid ≡ g.told old → (IsSome (g.disk old name) → ⊥) → LeavesOnly g.clock g.left_since old mid (FindsNoNewFile (g.disk old))
-      → LeavesOnly g.clock g.left_since mid new (LeavesStanding m (g.told mid)) → LeavesOnly g.clock g.left_since old new (StandsBehind name m (g.told old))
-  then_behind name m old mid new same none first second =
-      joins g.clock g.left_since old mid new (StandsBehind name m (g.told old)) (not_behind name m old mid none first)
-      (widened g.clock g.left_since mid new (LeavesStanding m (g.told mid)) (StandsBehind name m (g.told old)) (λ c stands some. subst (λ (t : List ℕ). LeavesStanding m t c) same stands) second)
+  pub all_behind : (m : Map) (old new : D) → LeavesOnly g.clock g.left_since old new (LeavesStanding m (g.told old)) → LeavesOnly g.clock g.left_since old new (StandsBehind (g.disk old) m (g.told old))
+  all_behind m old new leaves = widened g.clock g.left_since old new (LeavesStanding m (g.told old)) (StandsBehind (g.disk old) m (g.told old)) (λ c stands name none some. stands) leaves
+
+  pub then_behind : (m : Map) (old mid new : D) → g.told mid ≡ g.told old → MakesNoFile (g.disk old) (g.disk mid) → LeavesOnly g.clock g.left_since old mid (FindsNoNewFile (g.disk old))
+      → LeavesOnly g.clock g.left_since mid new (StandsBehind (g.disk mid) m (g.told mid)) → LeavesOnly g.clock g.left_since old new (StandsBehind (g.disk old) m (g.told old))
+  then_behind m old mid new same no_file first second =
+      joins g.clock g.left_since old mid new (StandsBehind (g.disk old) m (g.told old)) (not_behind m old mid first)
+      (widened g.clock g.left_since mid new (StandsBehind (g.disk mid) m (g.told mid)) (StandsBehind (g.disk old) m (g.told old))
+      (λ c stands name none some. subst (λ (t : List ℕ). LeavesStanding m t c) same (stands name (none_still name none) some)) second)
+    where
+      by : (name : Name) → g.disk old name ≡ None → (o : Option File) → g.disk mid name ≡ o → o ≡ None
+      by name none None e = refl
+      by name none (Some x) e = absurd (none_some (subst IsSome none (no_file name (subst IsSome (sym e) refl))))
+
+      none_still : (name : Name) → g.disk old name ≡ None → g.disk mid name ≡ None
+      none_still name none = by name none (g.disk mid name) refl
 
   -- ---- disks that a cut leaves for a map
 

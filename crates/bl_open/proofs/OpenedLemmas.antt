@@ -12,7 +12,7 @@ use Rattle.bl_folder.specs.Numbers.{IsFirstNumber}
 use Rattle.bl_folder.specs.Live.{IsFresh}
 use Rattle.bl_folder.specs.Stands.{Stands}
 use Rattle.bl_records.specs.Causes.{IsCause}
-use Rattle.bl_open.proofs.MomentLemmas.{CountsNow, OnlyNow, then_found}
+use Rattle.bl_open.proofs.MomentLemmas.{CountsNow, OnlyNow, not_behind, then_behind, then_found}
 use Rattle.bl_open.proofs.ReadLemmas.{nothing_side, nothing_then_side}
 use Rattle.bl_wal.specs.LogFile.{log_name}
 use Rattle.bl_open.specs.Barrier.{AreTheLogs, IsNewFile, MakesNothing}
@@ -37,7 +37,7 @@ module _ {D : Type 0} (g : Ghosts D) (shown : g.shows) (only_now : (site : D) �
     (only : (site : D) (other : Disk) → g.certain site → g.may_be site other → other ≡ g.disk site) where
   -- no name call was made
   pub nothing_cuts : (m : Map) (old new : D) → MakesNothing g old new → CutsAtBarrier g m old new
-  nothing_cuts m old new n = record { first = []; is_new = inr n.found; sides = nothing_side g shown only_now counts_now only [] m old new n }
+  nothing_cuts m old new n = record { first = []; is_new = inr n.found; sides = nothing_side g shown only_now counts_now only [] m old new n; behind = λ sure. not_behind g m old new (n.no_new sure) }
 
   pub then_cuts : (m : Map) (old mid new : D) → MakesNothing g old mid → folder_of (g.disk mid) ≡ folder_of (g.disk old) → CutsAtBarrier g m mid new → CutsAtBarrier g m old new
   then_cuts m old mid new n same c = record {
@@ -47,6 +47,7 @@ module _ {D : Type 0} (g : Ghosts D) (shown : g.shows) (only_now : (site : D) �
       | inr found ↦ inr (then_found g old mid new (counts_now mid) n.told n.found found)
     ];
     sides = nothing_then_side g shown only_now counts_now only c.first m old mid new n c.sides;
+    behind = λ sure. then_behind g m old mid new n.told n.no_file (n.no_new sure) (c.behind (n.certain sure));
   }
 
 -- the first file has a number above those of all files

@@ -8,8 +8,8 @@ use Rattle.bl_site.proofs.Moments.{goes_on, cut_of_only}
 use Rattle.bl_entry.specs.Revisions.{Map}
 use Rattle.bl_folder.specs.Stands.{Stands}
 use Rattle.bl_open.specs.SteadyCuts.{LeavesStanding}
-use Rattle.bl_open.specs.Barrier.{BeforeBarrier, FindsNoNewFile, IsOnEitherSide, LeavesFound, MakesNoFile, MakesNothing, StandsBehind}
-use Rattle.bl_open.proofs.MomentLemmas.{CountsNow, OnlyNow, IsSure, all_before, found_of_left, found_side, no_new_in, none_found, none_new, not_behind, rest_start, side_found, then_before, then_behind, then_found, then_new, then_standing}
+use Rattle.bl_open.specs.Barrier.{BeforeBarrier, FindsNoNewFile, IsOnEitherSide, LeavesFound, MakesNoFile, MakesNothing}
+use Rattle.bl_open.proofs.MomentLemmas.{CountsNow, OnlyNow, IsSure, all_before, found_of_left, found_side, no_new_in, none_found, none_new, rest_start, side_found, then_before, then_found, then_new, then_standing}
 
 pub no_new_file : (old new : Disk) → new ≡ old → MakesNoFile old new
 no_new_file old new same name some = subst (λ (d : Disk). IsSome (d name)) same some
@@ -86,10 +86,6 @@ module _ {D : Type 0} (g : Ghosts D) (shown : g.shows) (only_now : (site : D) �
   pub nothing_side : (name : Name) (m : Map) (old new : D) → MakesNothing g old new → LeavesOnly g.clock g.left_since old new (IsOnEitherSide name (g.may_be old) m (g.told old))
   nothing_side name m old new n = side_found g name m old new n.found
 
-  pub nothing_behind : (name : Name) (m : Map) (old new : D) → MakesNothing g old new → g.certain old → (IsSome (g.disk old name) → ⊥)
-      → LeavesOnly g.clock g.left_since old new (StandsBehind name m (g.told old))
-  nothing_behind name m old new n is none = not_behind g name m old new none (n.no_new is)
-
   -- ---- or one is made
 
   pub nothing_then_before : (name : Name) (old mid new : D) → MakesNothing g old mid → LeavesOnly g.clock g.left_since mid new (BeforeBarrier name (g.may_be mid) (g.told mid))
@@ -99,10 +95,6 @@ module _ {D : Type 0} (g : Ghosts D) (shown : g.shows) (only_now : (site : D) �
   pub nothing_then_side : (name : Name) (m : Map) (old mid new : D) → MakesNothing g old mid → LeavesOnly g.clock g.left_since mid new (IsOnEitherSide name (g.may_be mid) m (g.told mid))
       → LeavesOnly g.clock g.left_since old new (IsOnEitherSide name (g.may_be old) m (g.told old))
   nothing_then_side name m old mid new n second = found_side g name m old mid new (counts_now mid) n.told n.found second
-
-  pub nothing_then_behind : (name : Name) (m : Map) (old mid new : D) → MakesNothing g old mid → g.certain old → (IsSome (g.disk old name) → ⊥)
-      → LeavesOnly g.clock g.left_since mid new (LeavesStanding m (g.told mid)) → LeavesOnly g.clock g.left_since old new (StandsBehind name m (g.told old))
-  nothing_then_behind name m old mid new n is none second = then_behind g name m old mid new n.told none (n.no_new is) second
 
   -- ---- a fresh folder, which rests before the first name call
 

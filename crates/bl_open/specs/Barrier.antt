@@ -1,5 +1,5 @@
 -- What a power cut leaves of an opening, before its barrier is over and behind it.
-use Rattle.std.specs.Prelude.{◌≡◌, ◌≢◌, ◌⊎◌, ℕ, ◌<◌, List, [], length, get_or, Some, IsSome}
+use Rattle.std.specs.Prelude.{◌≡◌, ◌≢◌, ◌⊎◌, ℕ, ◌<◌, List, [], length, get_or, None, Some, IsSome}
 use Rattle.bl_site.specs.Disk.{Name, Folder, Disk, Cut, IsImage}
 use Rattle.bl_site.specs.Calls.{LeavesOnly}
 use Rattle.bl_site.specs.declared.site.Site.{Ghosts}
@@ -43,13 +43,9 @@ pub record BeforeBarrier (first : Name) (may_be : Disk → Type 0) (told : List 
   pub was : MayBeFound may_be found
   pub perhaps : (c.folder ≡ found) ⊎ HasEmptyFile first found c.folder
 
--- the cut finds a file of this name
-abbrev pub FindsFile : Name → Cut → Type 0
-FindsFile name c = IsSome (c.folder name)
-
--- The barrier is over for a cut that finds the first file of the opening: what is left stands for the map.
-abbrev pub StandsBehind : Name → Map → List ℕ → Cut → Type 0
-StandsBehind first m told c = FindsFile first c → LeavesStanding m told c
+-- The barrier is over for a cut that finds a file which is not on the disk: what is left stands for the map.
+abbrev pub StandsBehind : Disk → Map → List ℕ → Cut → Type 0
+StandsBehind disk m told c = (name : Name) → disk name ≡ None → IsSome (c.folder name) → LeavesStanding m told c
 
 -- whether or not the barrier is over
 abbrev pub IsOnEitherSide : Name → (Disk → Type 0) → Map → List ℕ → Cut → Type 0

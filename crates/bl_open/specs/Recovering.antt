@@ -13,7 +13,7 @@ use Rattle.bl_folder.specs.Live.{IsFresh, IsLive}
 use Rattle.bl_folder.specs.Logs.{HaveBatches}
 use Rattle.bl_folder.specs.Numbers.{IsFirstNumber}
 use Rattle.bl_folder.specs.Flushes.{IsMemoryOf}
-use Rattle.bl_open.specs.Barrier.{IsNewFile, IsOnEitherSide, LeavesFound}
+use Rattle.bl_open.specs.Barrier.{IsNewFile, IsOnEitherSide, LeavesFound, StandsBehind}
 use Rattle.bl_open.specs.Beginning.{AddsFlush}
 use Rattle.bl_open.specs.Checks.{AllPass}
 use Rattle.bl_open.specs.Damage.{FilesOrLogsFail, LacksLive}
@@ -89,8 +89,9 @@ pub record TakesLive (folder : Folder) (o : Opened) : Type 0 where
 abbrev pub TakesOver : Folder → Words → Opened → Type 0
 TakesOver folder words o = TakesFresh folder (given_or defaults words) o ⊎ TakesLive folder o
 
--- There is a first file of the opening, a new one, unless a cut leaves only what one before the opening might have left. A cut leaves that, but that this file may be there, empty; or it leaves the map.
+-- There is a first file of the opening, a new one, unless a cut leaves only what one before the opening might have left. A cut leaves that, but that this file may be there, empty; or it leaves the map. Where no name call was in doubt, one that finds a file which was not there leaves the map.
 pub record CutsAtBarrier {S : Type 0} (g : Ghosts S) (m : Map) (old new : S) : Type 0 where
   pub first : Name
   pub is_new : IsNewFile (folder_of (g.disk old)) first ⊎ LeavesOnly g.clock g.left_since old new (LeavesFound (g.may_be old) (g.told old))
   pub sides : LeavesOnly g.clock g.left_since old new (IsOnEitherSide first (g.may_be old) m (g.told old))
+  pub behind : g.certain old → LeavesOnly g.clock g.left_since old new (StandsBehind (g.disk old) m (g.told old))

@@ -16,6 +16,7 @@ use Rattle.bl_folder.specs.Numbers.{IsFirstNumber}
 use Rattle.bl_open.proofs.AnswerLemmas.{loading_not_full, missing_not_full, missing_refused, reading_not_full, reading_refused}
 use Rattle.bl_open.specs.Keeping.{KeepsAllButLogs}
 use Rattle.bl_open.proofs.KeepLemmas.{begun_kept, failed_kept, same_kept, synced_kept}
+use Rattle.bl_open.proofs.MomentLemmas.{all_behind}
 use Rattle.bl_open.proofs.OpenedLemmas.{cause_not_full, cause_silent, each_and, each_ok, first_is_new, no_telling, nothing_cuts, silent_same, some_in, the_logs, then_cuts}
 use Rattle.bl_open.proofs.ReadLemmas.{reads_make_nothing, then_nothing, then_reads}
 use Rattle.bl_open.proofs.RefusalLemmas.{due_of, loaded_not_refused, none_refused}
@@ -315,7 +316,7 @@ returns-clause-cuts g c = λ shown settled m stands.
     let n12 = then_nothing site shown (λ x. laws.only_now shown x) (λ x. laws.counts_now shown x) (λ x other sure. laws.only shown x other sure) s0 s1 s2 n1 n2 in
     let n13 = then_reads site shown (λ x. laws.only_now shown x) (λ x. laws.counts_now shown x) (λ x other sure. laws.only shown x other sure) s0 s2 s3 n12 c.load.ensures.quiet in
     then_cuts site shown (λ x. laws.only_now shown x) (λ x. laws.counts_now shown x) (λ x other sure. laws.only shown x other sure) m s0 s3 c.begin.new.site n13 same3
-    (record { first = first_file l.memory l.first; is_new = inl (first_is_new (folder_of (site.disk s3)) loaded.live.version loaded.live.standing.next_file l.first l.memory loaded.first); sides = c.begin.ensures.sides shown (Some (c.in_ok-manifest.manifest, loaded.live)) live.holding m s })
+    (record { first = first_file l.memory l.first; is_new = inl (first_is_new (folder_of (site.disk s3)) loaded.live.version loaded.live.standing.next_file l.first l.memory loaded.first); sides = c.begin.ensures.sides shown (Some (c.in_ok-manifest.manifest, loaded.live)) live.holding m s; behind = λ sure. all_behind site m s3 c.begin.new.site (c.begin.ensures.cuts shown sure (Some (c.in_ok-manifest.manifest, loaded.live)) live.holding m s) })
 
 pub returns-clause-settled : goal.returns-clause-settled
 returns-clause-settled g c = λ shown settled sound no_chance.
