@@ -1,5 +1,5 @@
 -- How many numbers a flush draws: one for each file that it makes.
-use Rattle.std.proofs.Common.{◌≡◌, ℕ, suc, ◌+◌, ◌≤◌, ◌<◌, Bool, true, false, cond, List, [], ◌∷◌, ◌++◌, length, map, refl, sym, ◌∙◌, ap, subst, arith, length-append}
+use Rattle.std.proofs.Common.{◌≡◌, ℕ, suc, ◌+◌, Bool, true, false, cond, List, [], ◌∷◌, ◌++◌, length, map, refl, ◌∙◌, ap, arith, length-append}
 use Rattle.std.specs.Prelude.{◌&&◌, not}
 use Rattle.std.proofs.lemmas.List.{length-map}
 use Rattle.bl_edit.specs.declared.edit.Edit.{Edit}
@@ -9,7 +9,7 @@ use Rattle.bl_entry.specs.declared.key.Entry.{Entry}
 use Rattle.bl_entry.specs.Entries.{last_of}
 use Rattle.bl_entry.specs.Kept.{kept}
 use Rattle.bl_flush.specs.Jobs.{all_added, flushed, next_behind, next_of}
-use Rattle.bl_out.specs.Outputs.{AreNamed, IsEditOf, Out, OutBlob, OutTable, added, addition_of, begins_blob, begins_table, blob_number, begun, close_blob, close_table, made_for, new_blob, new_table, on_last, passes, put_entry, put_record, written_for}
+use Rattle.bl_out.specs.Outputs.{AreNamed, IsEditOf, Out, OutTable, added, addition_of, begins_table, blob_number, begun, close_blob, close_table, made_for, new_blob, new_table, on_last, passes, put_entry, put_record, written_for}
 use Rattle.bl_out.specs.Written.{is_large}
 use Rattle.bl_open.specs.Flushing.{DrawsFor}
 

@@ -1,5 +1,5 @@
 -- What an opening leaves of the files that it found.
-use Rattle.std.proofs.Common.{◌≡◌, ◌≢◌, ℕ, ◌+◌, ◌<◌, ◌≤◌, [], ◌∷◌, refl, sym, ◌∙◌, ap, subst, arith, Result, Ok, Err}
+use Rattle.std.proofs.Common.{◌≡◌, ℕ, ◌+◌, ◌<◌, ◌≤◌, [], ◌∷◌, sym, ◌∙◌, ap, subst, arith, Result, Ok, Err}
 use Rattle.std.specs.Prelude.{◌^◌, OnOk}
 use Rattle.std.specs.Option.{option_map}
 use Rattle.bl_site.specs.Disk.{Disk, File, Folder, Name, folder_of}
