@@ -37,7 +37,7 @@ use Rattle.bl_out.specs.Reads.{IsSynced as IsAllSynced}
 use Rattle.bl_out.specs.Tables.{TableFile, table_in}
 use Rattle.bl_folder.proofs.FlushLemmas.{all_now}
 use Rattle.bl_folder.specs.FlushLaws.{FlushedAreThere, FlushesApply, FlushesKeepFiles, FlushesKeepFronts, HasBoth, HasHeld}
-use Rattle.bl_folder.specs.Flushes.{IsBelow, IsFlushOf, IsMemoryOf, linked_file, metas}
+use Rattle.bl_folder.specs.Flushes.{IsBelow, IsFlushOf, IsMemoryOf, IsWhole, installed, linked_file, metas}
 use Rattle.bl_folder.specs.Fronts.{cut_to, last_after}
 use Rattle.bl_folder.specs.Holding.{BlobFile, Holding}
 use Rattle.bl_folder.specs.Settled.{IsSynced, IsSyncedFile, NamesSynced}
@@ -77,18 +77,17 @@ below_more from more v le b = record {
   blobs = all_from (λ (x : BlobMeta). x.number < from) (λ x. x.number < more) v.blobs (λ x less. omega (arith, le, less)) b.blobs;
 }
 
-module _ (h : Holding) (m : Map) (memory : List Entry) (from drawn_from next : ℕ) (old new : Disk) (e : Edit) (l : IsLoaded h m memory from old) (f : HasFlushed h.live.standing.options from drawn_from next memory old new e) where
+-- the first so many batches of what is held are in a memory, of which a flush was made
+module _ (h : Holding) (count : ℕ) (memory : List Entry) (from drawn_from next : ℕ) (old new : Disk) (e : Edit) (has : HasFiles h old) (whole : IsWhole h) (lower : IsBelow from h.live.version) (within : count ≤ length h.batches)
+    (memory_of : IsMemoryOf (take count h.batches) memory) (f : HasFlushed h.live.standing.options from drawn_from next memory old new e) where
   abbrev files : Flushed
   files = f.flushes.files
 
-  abbrev count : ℕ
-  count = length h.batches
-
   pub flush_of : IsFlushOf h count drawn_from [] memory files
   flush_of = record {
-    within = omega arith;
-    below = below_more from drawn_from h.live.version f.above l.below;
-    memory_of = subst (λ (bs : List Batch). IsMemoryOf bs memory) (sym (take_all h.batches)) l.memory_of;
+    within = within;
+    below = below_more from drawn_from h.live.version f.above lower;
+    memory_of = memory_of;
     flush = f.flushes.flush;
   }
 
@@ -109,12 +108,12 @@ module _ (h : Holding) (m : Map) (memory : List Entry) (from drawn_from next : �
     tables_stay : AllByRecursion (λ t. new (name_of (Table t.number)) ≡ old (name_of (Table t.number))) h.live.version.tables
     tables_stay =
         all_both (λ (t : NewTable). IsTrue (table_fits t)) (λ t. t.number < from) (λ t. new (name_of (Table t.number)) ≡ old (name_of (Table t.number))) h.live.version.tables
-        (λ t fits less. table_stays t (fits_number t fits) less) l.whole.version.tables_fit l.below.tables
+        (λ t fits less. table_stays t (fits_number t fits) less) whole.version.tables_fit lower.tables
 
     blobs_stay : AllByRecursion (λ b. new (name_of (Blob b.number)) ≡ old (name_of (Blob b.number))) h.live.version.blobs
     blobs_stay =
         all_both (λ (b : BlobMeta). IsTrue (is_number b.number)) (λ b. b.number < from) (λ b. new (name_of (Blob b.number)) ≡ old (name_of (Blob b.number))) h.live.version.blobs
-        (λ b fits less. blob_stays b (from_test b.number fits) less) l.whole.version.blobs_fit l.below.blobs
+        (λ b fits less. blob_stays b (from_test b.number fits) less) whole.version.blobs_fit lower.blobs
 
     table_written : (t : TableFile) → (t.meta.number < next) × IsAllSynced new (name_of (Table t.meta.number)) → table_in (folder_of new) t.meta ≡ Some t → table_in (written_of new) t.meta ≡ Some t
     table_written t s is = ap (λ o. o then of_size t.meta.size then entries_in then λ es. Some (record { meta = t.meta; entries = es })) (written_reads new (name_of (Table t.meta.number)) s.1) ∙ is
@@ -147,34 +146,34 @@ module _ (h : Holding) (m : Map) (memory : List Entry) (from drawn_from next : �
     }
 
     has_old : HasHeld (written_of old) h
-    has_old = record { tables = l.files.tables; blobs = l.files.blobs; spelled = l.files.spelled }
+    has_old = record { tables = has.tables; blobs = has.blobs; spelled = has.spelled }
 
     module _ (reads : IndexIsRead) (spells : IndexIsSpelled) (there : FlushedAreThere) (keeps : FlushesKeepFiles) (log next_file : ℕ) where
       abbrev after : Holding
-      after = all_flushed h log next_file files
+      after = installed h count log next_file files
 
       old_synced : AllByRecursion (λ (t : TableFile). IsSynced new (Table t.meta.number)) h.tables
       old_synced =
-          all_unmapped (λ (t : TableFile). t.meta) (λ (t : NewTable). IsSynced new (Table t.number)) h.tables (subst (AllByRecursion (λ (t : NewTable). IsSynced new (Table t.number))) (sym l.whole.tables)
+          all_unmapped (λ (t : TableFile). t.meta) (λ (t : NewTable). IsSynced new (Table t.number)) h.tables (subst (AllByRecursion (λ (t : NewTable). IsSynced new (Table t.number))) (sym whole.tables)
           (all_both (λ (t : NewTable). new (name_of (Table t.number)) ≡ old (name_of (Table t.number))) (λ t. IsSynced old (Table t.number)) (λ t. IsSynced new (Table t.number)) h.live.version.tables
-          (λ t same synced. synced_same old new (Table t.number) same synced) tables_stay l.files.named.tables))
+          (λ t same synced. synced_same old new (Table t.number) same synced) tables_stay has.named.tables))
 
       old_blobs_synced : AllByRecursion (λ (b : BlobFile). IsSynced new (Blob b.meta.number)) h.blobs
       old_blobs_synced =
-          all_unmapped (λ (b : BlobFile). b.meta) (λ (b : BlobMeta). IsSynced new (Blob b.number)) h.blobs (subst (AllByRecursion (λ (b : BlobMeta). IsSynced new (Blob b.number))) (sym l.whole.blobs)
+          all_unmapped (λ (b : BlobFile). b.meta) (λ (b : BlobMeta). IsSynced new (Blob b.number)) h.blobs (subst (AllByRecursion (λ (b : BlobMeta). IsSynced new (Blob b.number))) (sym whole.blobs)
           (all_both (λ (b : BlobMeta). new (name_of (Blob b.number)) ≡ old (name_of (Blob b.number))) (λ b. IsSynced old (Blob b.number)) (λ b. IsSynced new (Blob b.number)) h.live.version.blobs
-          (λ b same synced. synced_same old new (Blob b.number) same synced) blobs_stay l.files.named.blobs))
+          (λ b same synced. synced_same old new (Blob b.number) same synced) blobs_stay has.named.blobs))
 
       abbrev tops : List NewTable
       tops = with_tables (metas files.tables) h.live.version.tables
 
       named : NamesSynced new after.live
       named =
-          let kept = keeps h count drawn_from log next_file [] memory files l.whole flush_of in
+          let kept = keeps h count drawn_from log next_file [] memory files whole flush_of in
           record {
             tables = subst (AllByRecursion (λ (t : NewTable). IsSynced new (Table t.number))) kept.tables
                 (all_of_map (λ (t : TableFile). t.meta) (λ (t : NewTable). IsSynced new (Table t.number)) after.tables
-                (all_now reads spells h count drawn_from log next_file [] memory files l.whole flush_of (λ t. IsSynced new (Table t.meta.number)) old_synced
+                (all_now reads spells h count drawn_from log next_file [] memory files whole flush_of (λ t. IsSynced new (Table t.meta.number)) old_synced
                 (all_from (λ (t : TableFile). (t.meta.number < next) × IsAllSynced new (name_of (Table t.meta.number))) (λ t. IsSynced new (Table t.meta.number)) files.tables (λ t s. is_synced new (Table t.meta.number) s.1) f.flushes.tables)));
             blobs = subst (AllByRecursion (λ (b : BlobMeta). IsSynced new (Blob b.number))) kept.blobs
                 (all_of_map (λ (b : BlobFile). b.meta) (λ (b : BlobMeta). IsSynced new (Blob b.number)) after.blobs
@@ -185,8 +184,15 @@ module _ (h : Holding) (m : Map) (memory : List Entry) (from drawn_from next : �
 
       pub has_files : HasFiles after new
       has_files =
-          let held = there (written_of old) (written_of new) h count drawn_from log next_file [] memory files l.whole has_old flush_of both in
+          let held = there (written_of old) (written_of new) h count drawn_from log next_file [] memory files whole has_old flush_of both in
           record { tables = held.tables; blobs = held.blobs; spelled = held.spelled; named = named }
+
+-- of all batches
+memory_of_all : (h : Holding) (m : Map) (memory : List Entry) (from : ℕ) (old : Disk) → IsLoaded h m memory from old → IsMemoryOf (take (length h.batches) h.batches) memory
+memory_of_all h m memory from old l = subst (λ (bs : List Batch). IsMemoryOf bs memory) (sym (take_all h.batches)) l.memory_of
+
+flush_of_all : (h : Holding) (m : Map) (memory : List Entry) (from drawn_from next : ℕ) (old new : Disk) (e : Edit) (l : IsLoaded h m memory from old) (f : HasFlushed h.live.standing.options from drawn_from next memory old new e) → IsFlushOf h (length h.batches) drawn_from [] memory f.flushes.files
+flush_of_all h m memory from drawn_from next old new e l f = flush_of h (length h.batches) memory from drawn_from next old new e l.files l.whole l.below (omega arith) (memory_of_all h m memory from old l) f
 
 -- all batches: what is held is cut to them
 cut_all : (h : Holding) → h.last ≡ last_after h.live.standing.last_sequence h.batches → cut_to (length h.batches + 0) h ≡ h
@@ -196,15 +202,15 @@ cut_all h last =
 
 pub flushed_have_tables : NamesOne → IndexIsRead → IndexIsSpelled → FlushedAreThere → FlushesKeepFiles → FlushesKeepFronts → FlushedHaveTables
 flushed_have_tables names reads spells there keeps fronts maps h m memory from drawn_from next log next_file old new e least most above first l f is =
-    let o = flush_of h m memory from drawn_from next old new e l f in
+    let o = flush_of_all h m memory from drawn_from next old new e l f in
     let files = f.flushes.files in
     let sound : IsSound (cut_to (length h.batches + 0) h) l.found m = subst (λ (g : Holding). IsSound g l.found m) (sym (cut_all h l.whole.last)) l.sound in
     let kept = fronts h l.found m (length h.batches) drawn_from log next_file 0 [] memory files l.whole sound o in
     record {
-      files = has_files h m memory from drawn_from next old new e l f names reads spells there keeps log next_file;
+      files = has_files h (length h.batches) memory from drawn_from next old new e l.files l.whole l.below (omega arith) (memory_of_all h m memory from old l) f names reads spells there keeps log next_file;
       version = is;
       log_number = refl;
-      behind = λ n number le. log_stays h m memory from drawn_from next old new e l f names n number ∙ l.logs n number (omega (arith, le, above));
+      behind = λ n number le. log_stays h (length h.batches) memory from drawn_from next old new e l.files l.whole l.below (omega arith) (memory_of_all h m memory from old l) f names n number ∙ l.logs n number (omega (arith, le, above));
       batches = drop_all h.batches;
       last = l.whole.last ∙ ap (last_after h.live.standing.last_sequence) (sym (take_all h.batches));
       makes = (kept.found_now, subst (IsSound (cut_to 0 (all_flushed h log next_file files)) kept.found_now) (sym first) kept.sound);
@@ -213,28 +219,34 @@ flushed_have_tables names reads spells there keeps fronts maps h m memory from d
 pub job_edits_apply : FlushesApply → JobEditsApply
 unfolding apply
 job_edits_apply applies h m memory from drawn_from next log next_file old new e least most l f =
-    ap (apply h.live.version) f.flushes.edit ∙ applies h (length h.batches) drawn_from log next_file [] memory f.flushes.files l.whole (flush_of h m memory from drawn_from next old new e l f)
+    ap (apply h.live.version) f.flushes.edit ∙ applies h (length h.batches) drawn_from log next_file [] memory f.flushes.files l.whole (flush_of_all h m memory from drawn_from next old new e l f)
 
-pub flushed_are_below : IndexIsRead → IndexIsSpelled → FlushesKeepFiles → FlushedAreBelow
-flushed_are_below reads spells keeps h m memory from drawn_from next log next_file old new e least upwards most l f =
-    let o = flush_of h m memory from drawn_from next old new e l f in
+-- all numbers are below the next
+pub installed_below : IndexIsRead → IndexIsSpelled → FlushesKeepFiles → (h : Holding) (count : ℕ) (memory : List Entry) (from drawn_from next log next_file : ℕ) (old new : Disk) (e : Edit) → HasFiles h old → (whole : IsWhole h) → IsBelow from h.live.version
+    → count ≤ length h.batches → IsMemoryOf (take count h.batches) memory → (f : HasFlushed h.live.standing.options from drawn_from next memory old new e) → drawn_from ≤ next → IsBelow next (installed h count log next_file f.flushes.files).live.version
+installed_below reads spells keeps h count memory from drawn_from next log next_file old new e has whole lower within memory_of f upwards =
+    let o = flush_of h count memory from drawn_from next old new e has whole lower within memory_of f in
     let files = f.flushes.files in
-    let kept = keeps h (length h.batches) drawn_from log next_file [] memory files l.whole o in
-    let old_below : IsBelow next h.live.version = (let above = f.above in below_more from next h.live.version (omega (arith, above, upwards)) l.below) in
-    let after : Holding = all_flushed h log next_file files in
+    let kept = keeps h count drawn_from log next_file [] memory files whole o in
+    let old_below : IsBelow next h.live.version = (let above = f.above in below_more from next h.live.version (omega (arith, above, upwards)) lower) in
+    let after : Holding = installed h count log next_file files in
     record {
       tables = subst (AllByRecursion (λ (t : NewTable). t.number < next)) kept.tables
           (all_of_map (λ (t : TableFile). t.meta) (λ (t : NewTable). t.number < next) after.tables
-          (all_now reads spells h (length h.batches) drawn_from log next_file [] memory files l.whole o (λ t. t.meta.number < next)
-          (all_unmapped (λ (t : TableFile). t.meta) (λ (t : NewTable). t.number < next) h.tables (subst (AllByRecursion (λ (t : NewTable). t.number < next)) (sym l.whole.tables) old_below.tables))
+          (all_now reads spells h count drawn_from log next_file [] memory files whole o (λ t. t.meta.number < next)
+          (all_unmapped (λ (t : TableFile). t.meta) (λ (t : NewTable). t.number < next) h.tables (subst (AllByRecursion (λ (t : NewTable). t.number < next)) (sym whole.tables) old_below.tables))
           (all_from (λ (t : TableFile). (t.meta.number < next) × IsAllSynced new (name_of (Table t.meta.number))) (λ t. t.meta.number < next) files.tables (λ t s. s.0) f.flushes.tables)));
       blobs = subst (AllByRecursion (λ (b : BlobMeta). b.number < next)) kept.blobs
           (all_of_map (λ (b : BlobFile). b.meta) (λ (b : BlobMeta). b.number < next) after.blobs
           (all_append (λ (b : BlobFile). b.meta.number < next) h.blobs (map (linked_file (with_tables (metas files.tables) h.live.version.tables)) files.blobs)
-          (all_unmapped (λ (b : BlobFile). b.meta) (λ (b : BlobMeta). b.number < next) h.blobs (subst (AllByRecursion (λ (b : BlobMeta). b.number < next)) (sym l.whole.blobs) old_below.blobs))
+          (all_unmapped (λ (b : BlobFile). b.meta) (λ (b : BlobMeta). b.number < next) h.blobs (subst (AllByRecursion (λ (b : BlobMeta). b.number < next)) (sym whole.blobs) old_below.blobs))
           (all_of_map (linked_file (with_tables (metas files.tables) h.live.version.tables)) (λ (b : BlobFile). b.meta.number < next) files.blobs
           (all_from (λ (b : NewBlob). (b.named.number < next) × IsAllSynced new (name_of (Blob b.named.number))) (λ b. b.named.number < next) files.blobs (λ b s. s.0) f.flushes.blobs))));
     }
+
+pub flushed_are_below : IndexIsRead → IndexIsSpelled → FlushesKeepFiles → FlushedAreBelow
+flushed_are_below reads spells keeps h m memory from drawn_from next log next_file old new e least upwards most l f =
+    installed_below reads spells keeps h (length h.batches) memory from drawn_from next log next_file old new e l.files l.whole l.below (omega arith) (memory_of_all h m memory from old l) f upwards
 
 one_edit : (v : Listing) (e : Edit) → apply nothing e ≡ Ok v → version (e ∷ []) ≡ Ok v
 unfolding applied

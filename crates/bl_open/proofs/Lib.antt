@@ -17,10 +17,10 @@ mod MomentLemmas
 mod OutcomeLemmas
 mod TouchLemmas
 mod NamingLemmas
-mod DrawnLemmas
-mod FlushedFiles
+pub mod DrawnLemmas
+pub mod FlushedFiles
 mod ReadLemmas
-mod ReplayLemmas
+pub mod ReplayLemmas
 mod TableLemmas
 mod StartLemmas
 mod LoadedLemmas

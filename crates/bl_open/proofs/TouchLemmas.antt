@@ -33,7 +33,7 @@ module _ {S : Type 0} (g : Ghosts S) (name : Name) (old new : S) (result : Resul
   pub create_touches : (g.shows → OnOk result (Creates name (g.disk old) (g.disk new))) → (g.shows → IsErrOf result DiskFailed → DoneOrNot (Creates name) (g.disk old) (g.disk new))
       → (g.shows → Elapses (g.clock old) (g.clock new) (g.left_since old) (g.left_since new) (MayLeave (MayDuring (Creates name) (g.may_be old)) (g.told old))) → TouchesOnly g (name ∷ []) old new
   create_touches done failed time =
-      touches_named g (Creates name) (name ∷ []) old new
+      touches_named g (Creates name) name [] old new
       (λ shown. create_stays name (g.disk old) (g.disk new) (create_outcome name (g.disk old) (g.disk new) result (done shown) (failed shown) (λ e. (memory shown e).same) not_tell))
       (λ from to made. create_stays name from to (inr made)) time only_old now
 
@@ -41,7 +41,7 @@ module _ {S : Type 0} (g : Ghosts S) (name : Name) (old new : S) (result : Resul
       → (g.shows → g.certain old → g.certain new) → (g.shows → g.told new ≡ g.told old)
       → (g.shows → Elapses (g.clock old) (g.clock new) (g.left_since old) (g.left_since new) (MayLeave (g.may_be new) (g.told new))) → (g.shows → IsOnly g new) → TouchesOnly g (name ∷ []) old new
   append_touches bytes done failed certain told time only_new =
-      touches_once g (name ∷ []) old new
+      touches_once g name [] old new
       (λ shown. append_stays name bytes (g.disk old) (g.disk new) (append_outcome name bytes (g.disk old) (g.disk new) result (done shown) (failed shown) (λ e. (memory shown e).same) not_tell))
       certain told time only_old only_new now
 
@@ -49,14 +49,14 @@ module _ {S : Type 0} (g : Ghosts S) (name : Name) (old new : S) (result : Resul
       → (g.shows → g.certain old → g.certain new) → (g.shows → g.told new ≡ g.told old)
       → (g.shows → Elapses (g.clock old) (g.clock new) (g.left_since old) (g.left_since new) (MayLeave (g.may_be new) (g.told new))) → (g.shows → IsOnly g new) → TouchesOnly g (name ∷ []) old new
   sync_touches done failed certain told time only_new =
-      touches_once g (name ∷ []) old new
+      touches_once g name [] old new
       (λ shown. sync_stays name (g.disk old) (g.disk new) (sync_outcome name (g.disk old) (g.disk new) result (done shown) (failed shown) (λ e. (memory shown e).same) not_tell))
       certain told time only_old only_new now
 
   pub rename_touches : (to : Name) → (g.shows → OnOk result (Renames name to (g.disk old) (g.disk new))) → (g.shows → IsErrOf result DiskFailed → DoneOrNot (Renames name to) (g.disk old) (g.disk new))
       → (g.shows → Elapses (g.clock old) (g.clock new) (g.left_since old) (g.left_since new) (MayLeave (MayDuring (Renames name to) (g.may_be old)) (g.told old))) → TouchesOnly g (name ∷ to ∷ []) old new
   rename_touches to done failed time =
-      touches_named g (Renames name to) (name ∷ to ∷ []) old new
+      touches_named g (Renames name to) name (to ∷ []) old new
       (λ shown. rename_stays name to (g.disk old) (g.disk new) (renamed_either name to (g.disk old) (g.disk new) result (done shown) (failed shown) (λ e. (memory shown e).same) not_tell))
       (λ from after did. rename_stays name to from after (inr did)) time only_old now
 

@@ -64,6 +64,14 @@ create_outcome name old new (Err DiskFailed) done failed memory not_tell = faile
 create_outcome name old new (Err OutOfMemory) done failed memory not_tell = inl (memory refl)
 create_outcome name old new (Err TellFailed) done failed memory not_tell = absurd (not_tell refl)
 
+-- names of which every name is none are none
+none_of_none : (names : List Name) → ((name : Name) → IsNoneOf names name) → names ≡ []
+none_of_none [] each = refl
+none_of_none (n ∷ more) each = absurd ((each n).0 refl)
+
+some_names : (first : Name) (more : List Name) → (first ∷ more ≡ []) → ⊥
+some_names first more is = cc is
+
 -- ---- what a cut leaves
 
 module _ {S : Type 0} (g : Ghosts S) where
@@ -81,14 +89,15 @@ module _ {S : Type 0} (g : Ghosts S) where
 
   -- no call
   pub touches_nothing : (names : List Name) (site : S) → (g.shows → IsOnly site) → (g.shows → IsNow site) → TouchesOnly g names site site
-  touches_nothing names site only now = record { others = λ shown name n. refl; cuts = λ shown sure. before_all names site sure (only shown) (now shown) }
+  touches_nothing names site only now = record { others = λ shown name n. refl; idle = λ none. refl; cuts = λ shown sure. before_all names site sure (only shown) (now shown) }
 
   -- one call behind which no name call is in doubt
-  pub touches_once : (names : List Name) (old new : S) → (g.shows → OthersStay names (g.disk old) (g.disk new)) → (g.shows → g.certain old → g.certain new) → (g.shows → g.told new ≡ g.told old)
+  pub touches_once : (first : Name) (more : List Name) (old new : S) → (g.shows → OthersStay (first ∷ more) (g.disk old) (g.disk new)) → (g.shows → g.certain old → g.certain new) → (g.shows → g.told new ≡ g.told old)
       → (g.shows → Elapses (g.clock old) (g.clock new) (g.left_since old) (g.left_since new) (MayLeave (g.may_be new) (g.told new)))
-      → (g.shows → IsOnly old) → (g.shows → IsOnly new) → (g.shows → IsNow old) → TouchesOnly g names old new
-  touches_once names old new others stays same time only_old only_new now = record {
+      → (g.shows → IsOnly old) → (g.shows → IsOnly new) → (g.shows → IsNow old) → TouchesOnly g (first ∷ more) old new
+  touches_once first more old new others stays same time only_old only_new now = let names = first ∷ more in record {
     others = others;
+    idle = λ none. absurd (some_names first more none);
     cuts = λ shown sure.
         certain_call g.clock g.left_since g.disk g.told g.may_be old old new (IsCutBut names (g.disk old) (g.told old))
         (before_all names old sure (only_old shown) (now shown)) (time shown) (λ d may. only_new shown d (stays shown sure) may)
@@ -96,11 +105,12 @@ module _ {S : Type 0} (g : Ghosts S) where
   }
 
   -- one name call
-  pub touches_named : (call : Disk → Disk → Type 0) (names : List Name) (old new : S) → (g.shows → OthersStay names (g.disk old) (g.disk new)) → ((from to : Disk) → call from to → OthersStay names from to)
+  pub touches_named : (call : Disk → Disk → Type 0) (first : Name) (more : List Name) (old new : S) → (g.shows → OthersStay (first ∷ more) (g.disk old) (g.disk new)) → ((from to : Disk) → call from to → OthersStay (first ∷ more) from to)
       → (g.shows → Elapses (g.clock old) (g.clock new) (g.left_since old) (g.left_since new) (MayLeave (MayDuring call (g.may_be old)) (g.told old)))
-      → (g.shows → IsOnly old) → (g.shows → IsNow old) → TouchesOnly g names old new
-  touches_named call names old new others done time only now = record {
+      → (g.shows → IsOnly old) → (g.shows → IsNow old) → TouchesOnly g (first ∷ more) old new
+  touches_named call first more old new others done time only now = let names = first ∷ more in record {
     others = others;
+    idle = λ none. absurd (some_names first more none);
     cuts = λ shown sure.
         name_call g.clock g.left_since g.disk g.told g.may_be call old old new (IsCutBut names (g.disk old) (g.told old))
         (before_all names old sure (only shown) (now shown)) (time shown) (λ d may. only shown d sure may)
@@ -112,6 +122,7 @@ module _ {S : Type 0} (g : Ghosts S) where
   pub touches_join : (names : List Name) (old mid new : S) → TouchesOnly g names old mid → (g.shows → g.certain old → g.certain mid) → TellsNothing g old mid → TouchesOnly g names mid new → TouchesOnly g names old new
   touches_join names old mid new first stays silent second = record {
     others = λ shown name n. second.others shown name n ∙ first.others shown name n;
+    idle = λ none. second.idle none ∙ first.idle none;
     cuts = λ shown sure.
         joins g.clock g.left_since old mid new (IsCutBut names (g.disk old) (g.told old)) (first.cuts shown sure)
         (widened g.clock g.left_since mid new (IsCutBut names (g.disk mid) (g.told mid)) (IsCutBut names (g.disk old) (g.told old))
@@ -123,6 +134,7 @@ module _ {S : Type 0} (g : Ghosts S) where
   pub touches_more : (few many : List Name) (old new : S) → ((name : Name) → IsNoneOf many name → IsNoneOf few name) → TouchesOnly g few old new → TouchesOnly g many old new
   touches_more few many old new less touches = record {
     others = λ shown name n. touches.others shown name (less name n);
+    idle = λ none. touches.idle (none_of_none few (λ name. less name (subst (λ (ns : List Name). IsNoneOf ns name) (sym none) tt)));
     cuts = λ shown sure.
         widened g.clock g.left_since old new (IsCutBut few (g.disk old) (g.told old)) (IsCutBut many (g.disk old) (g.told old))
         (λ c cut. more_names few many (g.disk old) (g.told old) c less cut) (touches.cuts shown sure);

@@ -21,7 +21,7 @@ returns-in_err-wal-clause-touches g c =
     let old = c.args.site.now in
     let new = c.create.new.site in
     let e = c.create.ensures in
-    touches_named s (Creates name) (name ∷ []) old new
+    touches_named s (Creates name) name [] old new
     (λ shown. create_stays name (s.disk old) (s.disk new) (log_outcome name (s.disk old) (s.disk new) c.create.result (e.created shown) (e.failed shown) (λ m. (e.keeps shown m).same) e.errors))
     (λ from to made. create_stays name from to (inr made)) e.time (λ shown. laws.only shown old) (λ shown. laws.only_now shown old)
 
@@ -57,7 +57,7 @@ returns-clause-touches g c =
     let old = c.args.site.now in
     let new = c.create.new.site in
     let e = c.create.ensures in
-    touches_named s (Creates name) (name ∷ []) old new
+    touches_named s (Creates name) name [] old new
     (λ shown. create_stays name (s.disk old) (s.disk new) (log_outcome name (s.disk old) (s.disk new) c.create.result (e.created shown) (e.failed shown) (λ m. (e.keeps shown m).same) e.errors))
     (λ from to made. create_stays name from to (inr made)) e.time (λ shown. laws.only shown old) (λ shown. laws.only_now shown old)
 

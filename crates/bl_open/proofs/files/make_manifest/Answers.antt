@@ -18,7 +18,7 @@ returns-in_err-made-clause-touches g c =
     let old = c.args.site.now in
     let new = c.create.new.site in
     let e = c.create.ensures in
-    touches_named s (MakesPartly name bytes) (name ∷ []) old new
+    touches_named s (MakesPartly name bytes) name [] old new
     (λ shown. others_stay name (s.disk old) (s.disk new) (manifest_others name bytes (s.disk old) (s.disk new) c.create.result (e.created shown) (e.left shown)))
     (λ from to made. others_stay name from to made.puts.others) e.time (λ shown. laws.only shown old) (λ shown. laws.only_now shown old)
 
@@ -31,7 +31,7 @@ returns-clause-touches g c =
     let old = c.args.site.now in
     let new = c.create.new.site in
     let e = c.create.ensures in
-    touches_named s (MakesPartly name bytes) (name ∷ []) old new
+    touches_named s (MakesPartly name bytes) name [] old new
     (λ shown. others_stay name (s.disk old) (s.disk new) (manifest_others name bytes (s.disk old) (s.disk new) c.create.result (e.created shown) (e.left shown)))
     (λ from to made. others_stay name from to made.puts.others) e.time (λ shown. laws.only shown old) (λ shown. laws.only_now shown old)
 
