@@ -2,7 +2,7 @@
 use Rattle.std.specs.Prelude.{◌≡◌, ℕ, ◌+◌, ◌^◌, ◌<◌, ◌≤◌, List, [], ◌∷◌, length, false, None, Some, Ok}
 use Rattle.bl_site.specs.Disk.{Disk, Name}
 use Rattle.bl_names.specs.declared.name.FileName.TheVariants.{Table}
-use Rattle.bl_names.specs.Names.{name_of}
+use Rattle.bl_names.specs.Names.{IsNumber, name_of}
 use Rattle.bl_entry.specs.declared.key.Entry.{Entry}
 use Rattle.bl_entry.specs.Revisions.{Map}
 use Rattle.bl_build.specs.Listing.{Listing}
@@ -53,12 +53,21 @@ first_file (e ∷ es) first = name_of (Table (first + 2))
 abbrev pub live_of : Opened → Restored
 live_of o = record { version = o.version; standing = o.standing }
 
--- The manifest has the first number and the log the one behind it; what stands beside the version is what was loaded.
-pub record IsNumbered (l : Loaded) (o : Opened) : Type 0 where
-  pub manifest : o.manifest.number ≡ l.first
+-- What was opened is in bounds, whatever a site shows: the next number for a new file is one that a file may have or the one behind, and the last sequence is below 2 ^ 56. The manifest and the log have numbers of files, no call of them has failed, and the log is that of the log number, from its start.
+pub record IsWithin (o : Opened) : Type 0 where
+  pub some : 1 ≤ o.standing.next_file
+  pub most : o.standing.next_file ≤ 10 ^ 15
+  pub last : o.standing.last_sequence < 2 ^ 56
+  pub manifest : IsNumber o.manifest.number
   pub usable : o.manifest.failed ≡ false
+  pub log : IsNumber o.wal.number
+  pub wal : o.wal ≡ new_log o.standing.log_number
+
+-- The manifest has the first number and the log the one behind it; what stands beside the version is what was loaded, and all is in bounds.
+pub record IsNumbered (l : Loaded) (o : Opened) : Type 0 where
+  pub within : IsWithin o
+  pub manifest : o.manifest.number ≡ l.first
   pub log : o.standing.log_number ≡ l.first + 1
-  pub wal : o.wal ≡ new_log (l.first + 1)
   pub options : o.standing.options ≡ l.options
   pub last : o.standing.last_sequence ≡ l.last
 

@@ -14,7 +14,7 @@ ghost use Rattle.bl_folder.specs.Live.{IsFresh};
 ghost use Rattle.bl_folder.specs.Settled.{IsSettled};
 ghost use Rattle.bl_folder.specs.Stands.{IsSoundFolder, Stands};
 ghost use Rattle.bl_open.specs.Answers.{IsLoading};
-ghost use Rattle.bl_open.specs.Beginning.{IsBounded, IsInPlace, IsOpened};
+ghost use Rattle.bl_open.specs.Beginning.{IsBounded, IsInPlace, IsOpened, IsWithin};
 ghost use Rattle.bl_open.specs.Causes.{IsWriting};
 ghost use Rattle.bl_open.specs.Damage.{NamesManifest};
 ghost use Rattle.bl_open.specs.Keeping.{KeepsFound};
@@ -55,6 +55,7 @@ fn create_among<S: Site>(
     requires listed { S.shows → AreListed (folder_of (S.disk site.old)) files.now }
     requires fresh { S.shows → IsFresh (folder_of (S.disk site.old)) }
     ensures takes { S.shows → IfOk result (TakesFresh (folder_of (S.disk site.old)) options) }
+    ensures within { IfOk result IsWithin }
     ensures in_place { S.shows → IfOk result (λ o. IsInPlace o (S.disk site.new)) }
     ensures keeps { S.shows → KeepsFound result (S.disk site.old) (S.disk site.new) }
     ensures opened { S.shows → IsSettled (S.disk site.old) → (maps : Maps) → maps 0 ≡ empty → IfOk result (λ o. IsOpened maps o (S.disk site.new)) }
@@ -90,6 +91,7 @@ fn create_among<S: Site>(
 pub fn create<S: Site>(alloc: Global, site: &mut S, options: &Options) -> Result<Opened, OpenErr>
     requires { S.shows → IsFresh (folder_of (S.disk site.old)) }
     ensures takes { S.shows → IfOk result (TakesFresh (folder_of (S.disk site.old)) options.now) }
+    ensures within { IfOk result IsWithin }
     ensures in_place { S.shows → IfOk result (λ o. IsInPlace o (S.disk site.new)) }
     ensures keeps { S.shows → KeepsFound result (S.disk site.old) (S.disk site.new) }
     ensures opened { S.shows → IsSettled (S.disk site.old) → (maps : Maps) → maps 0 ≡ empty → IfOk result (λ o. IsOpened maps o (S.disk site.new)) }
@@ -171,6 +173,7 @@ fn recover_live<S: Site>(
     requires listed { S.shows → AreListed (folder_of (S.disk site.old)) files.now }
     requires current { S.shows → IsSome (file (folder_of (S.disk site.old)) Current) }
     ensures takes { S.shows → IfOk result (TakesOver (folder_of (S.disk site.old)) asked.now) }
+    ensures within { IfOk result IsWithin }
     ensures in_place { S.shows → IfOk result (λ o. IsInPlace o (S.disk site.new)) }
     ensures keeps { S.shows → KeepsFound result (S.disk site.old) (S.disk site.new) }
     ensures opened { S.shows → IsSettled (S.disk site.old) → (m : Map) → Stands (folder_of (S.disk site.old)) m → (maps : Maps) → maps 0 ≡ m → IfOk result (λ o. IsOpened maps o (S.disk site.new)) }
@@ -209,6 +212,7 @@ fn recover_live<S: Site>(
 /// used up; `OutOfMemory`.
 pub fn recover<S: Site>(alloc: Global, site: &mut S, asked: &Asked) -> Result<Opened, OpenErr>
     ensures takes { S.shows → IfOk result (TakesOver (folder_of (S.disk site.old)) asked.now) }
+    ensures within { IfOk result IsWithin }
     ensures in_place { S.shows → IfOk result (λ o. IsInPlace o (S.disk site.new)) }
     ensures keeps { S.shows → KeepsFound result (S.disk site.old) (S.disk site.new) }
     ensures opened { S.shows → IsSettled (S.disk site.old) → (m : Map) → Stands (folder_of (S.disk site.old)) m → (maps : Maps) → maps 0 ≡ m → IfOk result (λ o. IsOpened maps o (S.disk site.new)) }

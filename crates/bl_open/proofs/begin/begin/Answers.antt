@@ -6,6 +6,7 @@ use Rattle.bl_open.proofs.LoadedLemmas.{after, flush_cuts, flush_sides, live_aft
 use Rattle.bl_open.specs.Beginning.{first_file}
 use Rattle.bl_site.specs.Calls.{LeavesOnly}
 use Rattle.bl_names.specs.declared.name.FileName.TheVariants.{Manifest}
+use Rattle.bl_names.specs.Names.{IsNumber}
 use Rattle.bl_wal.specs.LogFile.{log_name}
 use Rattle.bl_open.specs.Barrier.{IsOnEitherSide}
 use Rattle.bl_open.specs.Found.{IsSpareFor}
@@ -334,3 +335,26 @@ returns-clause-keeps g c = λ shown.
     (flush_keeps c.args.loaded.first c.draw-2.new.self (g.S.Site.disk c.args.site.now) (g.S.Site.disk c.flush_found.new.site) (omega (arith, at)) (c.flush_found.ensures.others shown))
     (store_keeps c.args.loaded.first c.in_ok-manifest.manifest c.in_ok-log.log (g.S.Site.disk c.flush_found.new.site) (g.S.Site.disk c.start_store.new.site) c.requires.bounded.some at_manifest at_log
     (omega (arith, c.in_ok-log.ensures.drawn.0, c.in_ok-log.ensures.drawn.1)) (c.start_store.ensures.others shown))
+
+pub returns-clause-numbered : goal.returns-clause-numbered
+returns-clause-numbered g c =
+    let bounded = c.requires.bounded in
+    let made = c.in_ok-manifest-2.ensures.made in
+    let at_manifest : c.in_ok-manifest.manifest ≡ c.args.loaded.first = c.in_ok-manifest.ensures.drawn.0 ∙ c.from-numbers.ensures in
+    let at_log : c.in_ok-log.log ≡ c.args.loaded.first + 1 = omega (arith, c.in_ok-log.ensures.drawn.0, c.in_ok-manifest.ensures.drawn.2, c.from-numbers.ensures) in
+    let is_log : IsNumber c.in_ok-log.log = (omega (arith, at_log), omega (arith, c.in_ok-log.ensures.drawn.0, c.in_ok-log.ensures.drawn.1)) in
+    record {
+      within = record {
+        some = c.next.ensures.some;
+        most = c.next.ensures.bound;
+        last = bounded.last;
+        manifest = subst IsNumber (sym made.0) (omega (arith, at_manifest, bounded.some), omega (arith, c.in_ok-manifest.ensures.drawn.0, c.in_ok-manifest.ensures.drawn.1));
+        usable = made.1;
+        log = subst (λ w. IsNumber w.number) (sym made.2) is_log;
+        wal = made.2;
+      };
+      manifest = made.0 ∙ at_manifest;
+      log = at_log;
+      options = refl;
+      last = refl;
+    }

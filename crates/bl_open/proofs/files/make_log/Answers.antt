@@ -1,4 +1,4 @@
-use Rattle.std.proofs.Common.{[], ◌∷◌, inr, refl}
+use Rattle.std.proofs.Common.{[], inr, refl}
 use Rattle.bl_site.specs.Calls.{Creates}
 use Rattle.bl_names.specs.declared.name.FileName.TheVariants.{Log}
 use Rattle.bl_wal.specs.LogFile.{log_name}

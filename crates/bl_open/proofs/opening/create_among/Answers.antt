@@ -12,7 +12,7 @@ use Rattle.bl_open.proofs.KeepLemmas.{begun_kept}
 use Rattle.bl_open.proofs.MomentLemmas.{all_behind}
 use Rattle.bl_open.proofs.OpenedLemmas.{each_and, each_ok, first_is_new, nothing_passes}
 use Rattle.bl_open.proofs.StartingLemmas.{starts_fresh}
-use Rattle.bl_open.specs.Beginning.{AddsFlush, IsNumbered, first_file}
+use Rattle.bl_open.specs.Beginning.{AddsFlush, IsNumbered, IsWithin, first_file}
 use Rattle.bl_open.specs.Fresh.{no_holding}
 use Rattle.bl_open.specs.Recovering.{TakesFresh}
 use Rattle.bl_open.specs.declared.begin.Loaded.{Loaded}
@@ -80,3 +80,8 @@ returns-clause-keeps g c = λ shown.
     let some : 1 ≤ 1 = omega arith in
     let first = c.first_number.ensures.first (folder_of disk) nothing is (nothing_passes (folder_of disk)) (c.requires.listed shown) (inl some) in
     begun_kept c.begin.result disk disk (g.S.Site.disk c.begin.new.site) nothing 1 c.first_number.result (λ name no. refl) refl first (c.begin.ensures.keeps shown)
+
+pub returns-clause-within : goal.returns-clause-within
+returns-clause-within g c =
+    let l : Loaded = record { version = c.empty-version.result; options = c.args.options; memory = c.start.result; last = 0; first = c.first_number.result } in
+    each_ok c.begin.result (IsNumbered l) IsWithin (λ o n. n.within) c.begin.ensures.numbered

@@ -23,7 +23,7 @@ use Rattle.bl_open.proofs.RefusalLemmas.{due_of, loaded_not_refused, none_refuse
 use Rattle.bl_open.proofs.StartingLemmas.{live_stands, starts_live}
 use Rattle.bl_open.specs.Answers.{IsLoading, IsReading}
 use Rattle.bl_open.specs.Barrier.{AreTheLogs, MakesNothing}
-use Rattle.bl_open.specs.Beginning.{AddsFlush, IsNumbered, first_file}
+use Rattle.bl_open.specs.Beginning.{AddsFlush, IsNumbered, IsWithin, first_file}
 use Rattle.bl_open.specs.Damage.{NamesManifest}
 use Rattle.bl_open.specs.Found.{RestsAs}
 use Rattle.bl_open.specs.Listing.{AreListed, AreLogs}
@@ -403,3 +403,6 @@ returns-clause-keeps g c = λ shown.
     begun_kept c.begin.result (site.disk c.args.site.now) (site.disk c.load.new.site) (site.disk c.begin.new.site) loaded.live.version loaded.live.standing.next_file c.in_ok-loaded.loaded.first
     (subst (λ (d : Disk). KeepsAllButLogs (site.disk c.args.site.now) d) (sym read) (subst (λ (d : Disk). KeepsAllButLogs d (site.disk c.sync_found.new.site)) stays (c.sync_found.ensures.only shown)))
     (ap folder_of read ∙ same) first (c.begin.ensures.keeps shown)
+
+pub returns-clause-within : goal.returns-clause-within
+returns-clause-within g c = each_ok c.begin.result (IsNumbered c.in_ok-loaded.loaded) IsWithin (λ o n. n.within) c.begin.ensures.numbered
