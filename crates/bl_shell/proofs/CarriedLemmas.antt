@@ -9,8 +9,8 @@ use Rattle.bl_script.specs.declared.command.Parsed.{Parsed}
 use Rattle.bl_script.specs.declared.command.Parsed.TheVariants.{Nothing}
 use Rattle.bl_script.specs.Lines.{lines_in, whole_lines_in, without_return}
 use Rattle.bl_script.specs.Parsing.{parsed}
-use Rattle.bl_store.specs.Laws.{CutsStand, StoresStand, BatchesMakeMap}
-use Rattle.bl_store.specs.Stored.{Stored}
+use Rattle.bl_logstore.specs.Laws.{CutsStand, StoresStand, BatchesMakeMap}
+use Rattle.bl_logstore.specs.Stored.{Stored}
 use Rattle.bl_shell.specs.declared.lines.LineInHand.{LineInHand}
 use Rattle.bl_shell.specs.Machine.{Line, orders, orders_of, reply_of, told_by, written_by, numbered, reopens_in, Start}
 use Rattle.bl_shell.specs.Carried.{state_of, Holds, IsServable, TellsFront, Obeyed, Passes, HasRoom, StandsAtStart, Steady, Carried, CutIn, NoLineEnd}

@@ -6,10 +6,10 @@ use Rattle.bl_site.specs.Disk.{Name, File, Folder, Disk, Cut, IsRemnant, IsLeft,
 use Rattle.bl_site.specs.Calls.{LeavesOnly, Tells}
 use Rattle.bl_site.proofs.Moments.{started, joins, widened}
 use Rattle.bl_script.specs.declared.command.Parsed.{Parsed}
-use Rattle.bl_store.specs.Cuts.{BeforeBarrier, FindsOpened}
-use Rattle.bl_store.specs.Laws.{CutsStand, BatchesMakeMap}
-use Rattle.bl_store.specs.Stored.{HasNextLog, IsOpened}
-use Rattle.bl_store.proofs.BehindLemmas.{finds_no_next, no_call_no_new}
+use Rattle.bl_logstore.specs.Cuts.{BeforeBarrier, FindsOpened}
+use Rattle.bl_logstore.specs.Laws.{CutsStand, BatchesMakeMap}
+use Rattle.bl_logstore.specs.Stored.{HasNextLog, IsOpened}
+use Rattle.bl_logstore.proofs.BehindLemmas.{finds_no_next, no_call_no_new}
 use Rattle.bl_shell.specs.Machine.{Start}
 use Rattle.bl_shell.specs.declared.stop.Stop.{Stop}
 use Rattle.bl_shell.specs.declared.stop.Stop.TheVariants as stop

@@ -11,10 +11,10 @@ use Rattle.bl_script.specs.declared.command.Parsed.TheVariants.{Nothing}
 use Rattle.bl_records.specs.Chance.{NoChanceMatch}
 use Rattle.bl_records.proofs.HeldLemmas.{within_of}
 use Rattle.bl_wal.specs.Held.{record_of}
-use Rattle.bl_store.specs.Cuts.{LeavesFirst, AreLeftWhole}
-use Rattle.bl_store.specs.Folders.{Stands, LogStands}
-use Rattle.bl_store.specs.Laws.{CutsStand, BatchesMakeMap}
-use Rattle.bl_store.specs.Stored.{Stored, next_batch}
+use Rattle.bl_logstore.specs.Cuts.{LeavesFirst, AreLeftWhole}
+use Rattle.bl_logstore.specs.Folders.{Stands, LogStands}
+use Rattle.bl_logstore.specs.Laws.{CutsStand, BatchesMakeMap}
+use Rattle.bl_logstore.specs.Stored.{Stored, next_batch}
 use Rattle.bl_shell.specs.Machine.{Write, Line, Runs, after_writes, orders_of, reply_of, writes_of, told_by, written_by, operations_in, numbered, Start}
 use Rattle.bl_shell.specs.Synced.{syncs, before_sync, synced, begun, CutOf, StandsAfter}
 use Rattle.bl_shell.specs.Carried.{state_of, IsServable, TellsFront, StandsFirst, CutTelling, CutIn, IsWrite, IsTold, IsMade}

@@ -14,10 +14,10 @@ use Rattle.bl_script.specs.declared.command.Parsed.{Parsed}
 use Rattle.bl_wal.specs.LogFile.{LogFile, log_name}
 use Rattle.bl_log.specs.Layout.{written}
 use Rattle.bl_wal.specs.Held.{log_of, record_of}
-use Rattle.bl_store.specs.Cuts.{LeavesFirst}
-use Rattle.bl_store.specs.Folders.{Stands}
-use Rattle.bl_store.specs.Laws.{StoresStand, BatchesMakeMap, OlderLogsAreSynced, SyncedStoresAreLeft}
-use Rattle.bl_store.specs.Stored.{Stored, StandsOn, Carries, IsSynced}
+use Rattle.bl_logstore.specs.Cuts.{LeavesFirst}
+use Rattle.bl_logstore.specs.Folders.{Stands}
+use Rattle.bl_logstore.specs.Laws.{StoresStand, BatchesMakeMap, OlderLogsAreSynced, SyncedStoresAreLeft}
+use Rattle.bl_logstore.specs.Stored.{Stored, StandsOn, Carries, IsSynced}
 use Rattle.bl_shell.specs.declared.lines.LineInHand.{LineInHand}
 use Rattle.bl_shell.specs.Machine.{orders, orders_of, told_by, written_by, numbered, Start}
 use Rattle.bl_shell.specs.Carried.{state_of, Steady, Carried, Finished}

@@ -14,9 +14,9 @@ use Rattle.bl_script.specs.declared.command.Parsed.{Parsed}
 use Rattle.bl_script.specs.declared.command.Parsed.TheVariants.{Go}
 use Rattle.bl_script.specs.Printing.{ok_line}
 use Rattle.bl_wal.specs.LogFile.{log_name}
-use Rattle.bl_store.specs.Logs.{HaveBatches, records_up_to, bytes_in}
-use Rattle.bl_store.specs.Folders.{LogStands}
-use Rattle.bl_store.specs.Laws.{BatchesAreOnce}
+use Rattle.bl_logstore.specs.Logs.{HaveBatches, records_up_to, bytes_in}
+use Rattle.bl_logstore.specs.Folders.{LogStands}
+use Rattle.bl_logstore.specs.Laws.{BatchesAreOnce}
 use Rattle.bl_shell.specs.Cuts.{IsErrorFront, CutStands}
 use Rattle.bl_shell.specs.Laws.{ToldSyncsAreKept, NoReplyIsBeforeTheBarrier}
 use Rattle.bl_shell.specs.Machine.{State, Write, Line, Step, IsHistory, reply_of, writes_of, after_writes, written_by}

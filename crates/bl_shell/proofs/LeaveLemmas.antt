@@ -8,10 +8,10 @@ use Rattle.bl_entry.specs.Batches.{Batch}
 use Rattle.bl_entry.specs.Revisions.{Map, revisions_of, IsMapAt}
 use Rattle.bl_script.specs.declared.command.Parsed.{Parsed}
 use Rattle.bl_wal.specs.LogFile.{log_name}
-use Rattle.bl_store.specs.Folders.{Stands}
-use Rattle.bl_store.specs.Laws.{StoresStand, BatchesMakeMap}
-use Rattle.bl_store.specs.Logs.{after_batches}
-use Rattle.bl_store.specs.Stored.{Stored}
+use Rattle.bl_logstore.specs.Folders.{Stands}
+use Rattle.bl_logstore.specs.Laws.{StoresStand, BatchesMakeMap}
+use Rattle.bl_logstore.specs.Logs.{after_batches}
+use Rattle.bl_logstore.specs.Stored.{Stored}
 use Rattle.bl_shell.specs.Machine.{Line, Runs, written_by, operations_in, numbered, reopens, reopens_in, Start}
 use Rattle.bl_shell.specs.Carried.{state_of, Keeps, IsServable, Obeyed}
 use Rattle.bl_shell.specs.Synced.{syncs, before_sync}

@@ -19,7 +19,7 @@ use Rattle.bl_wal.specs.Held.{record_of}
 use Rattle.bl_script.specs.declared.command.Command.TheVariants as command
 use Rattle.bl_script.specs.declared.command.Parsed.{Parsed}
 use Rattle.bl_script.specs.declared.command.Parsed.TheVariants.{Go}
-use Rattle.bl_store.specs.Stored.{Stored, Opens}
+use Rattle.bl_logstore.specs.Stored.{Stored, Opens}
 use Rattle.bl_shell.specs.Machine.{Line, Write, writes_of, written_by, operations_in, numbered, reopens, reopens_in, Start, Fits}
 use Rattle.bl_shell.specs.Carried.{IsServable, IsWrite, HasRoom, operations_of}
 use Rattle.bl_shell.proofs.StayLemmas.{next_number}

@@ -6,8 +6,8 @@ use Rattle.bl_site.specs.Calls.{Elapses, LeavesOnly, Tells}
 use Rattle.bl_site.proofs.Moments.{started, goes_on, cut_of_only}
 use Rattle.bl_entry.specs.Batches.{Batch}
 use Rattle.bl_script.specs.declared.command.Parsed.{Parsed}
-use Rattle.bl_store.specs.Laws.{CutsStand}
-use Rattle.bl_store.specs.Stored.{Stored}
+use Rattle.bl_logstore.specs.Laws.{CutsStand}
+use Rattle.bl_logstore.specs.Stored.{Stored}
 use Rattle.bl_shell.specs.Machine.{reply_of, writes_of, numbered}
 use Rattle.bl_shell.specs.Synced.{syncs}
 use Rattle.bl_shell.specs.Carried.{IsServable, CutTelling, CutIn}

@@ -13,14 +13,14 @@ use Rattle.bl_script.specs.declared.command.Command.TheVariants as command
 use Rattle.bl_script.specs.declared.command.Parsed.TheVariants.{Go}
 use Rattle.bl_script.specs.declared.command.Parsed.{Parsed}
 use Rattle.bl_wal.specs.LogFile.{log_name}
-use Rattle.bl_store.specs.declared.error.StoreErr.{StoreErr}
-use Rattle.bl_store.specs.declared.error.StoreErr.TheVariants as store
+use Rattle.bl_logstore.specs.declared.error.StoreErr.{StoreErr}
+use Rattle.bl_logstore.specs.declared.error.StoreErr.TheVariants as store
 use Rattle.bl_shell.specs.declared.stop.Stop.TheVariants as stop
 use Rattle.bl_shell.specs.Causes.{stop_of_store}
-use Rattle.bl_store.specs.Logs.{after_batches}
-use Rattle.bl_store.specs.Folders.{Stands, IsNext}
-use Rattle.bl_store.specs.Laws.{StoresStand, BatchesAreOnce}
-use Rattle.bl_store.specs.Stored.{Stored, Carries, Opens, next_batch, next_record, wrote}
+use Rattle.bl_logstore.specs.Logs.{after_batches}
+use Rattle.bl_logstore.specs.Folders.{Stands, IsNext}
+use Rattle.bl_logstore.specs.Laws.{StoresStand, BatchesAreOnce}
+use Rattle.bl_logstore.specs.Stored.{Stored, Carries, Opens, next_batch, next_record, wrote}
 use Rattle.bl_shell.specs.Machine.{Write, Line, after_writes, operations_in, numbered}
 use Rattle.bl_shell.specs.Synced.{syncs}
 use Rattle.bl_shell.specs.Carried.{IsServable, Keeps, Obeyed, IsWrite, IsTold}

@@ -14,9 +14,9 @@ use Rattle.bl_entry.specs.Revisions.{Map, revisions_of, IsMapAt}
 use Rattle.bl_script.specs.declared.command.Command.TheVariants as command
 use Rattle.bl_script.specs.declared.command.Parsed.{Parsed}
 use Rattle.bl_script.specs.declared.command.Parsed.TheVariants.{Nothing, Refused, Go}
-use Rattle.bl_store.specs.Folders.{Stands, LogStands}
-use Rattle.bl_store.specs.Logs.{after_batches}
-use Rattle.bl_store.specs.Laws.{BatchesMakeMap}
+use Rattle.bl_logstore.specs.Folders.{Stands, LogStands}
+use Rattle.bl_logstore.specs.Logs.{after_batches}
+use Rattle.bl_logstore.specs.Laws.{BatchesMakeMap}
 use Rattle.bl_shell.specs.Machine.{State, Write, Line, Runs, after_writes, reply_of, told_by, written_by, operations_in, numbered, Start}
 use Rattle.bl_shell.specs.Synced.{syncs, whole_within, before_sync, synced, begun, StandsAfter}
 use Rattle.bl_shell.specs.Carried.{StandsFirst, IsMade}

@@ -2,14 +2,14 @@
 use Rattle.std.proofs.Common.{false, arith, ◌^◌, ◌≡◌, ◌⊎◌, inl, inr, ℕ, List, [], ◌++◌, refl, sym, ◌∙◌, ap, subst, append-nil}
 use Rattle.std.specs.FinMap.{empty}
 use Rattle.bl_site.specs.Disk.{Name, Folder, Disk, folder_of}
-use Rattle.bl_store.specs.declared.error.StoreErr.{StoreErr}
-use Rattle.bl_store.specs.declared.error.StoreErr.TheVariants as store
-use Rattle.bl_store.specs.Causes.{IsOpening as IsStoreOpening, IsUntouched as IsUntouchedStore}
-use Rattle.bl_store.specs.Damage.{IsDamaged}
-use Rattle.bl_store.specs.Folders.{Stands}
-use Rattle.bl_store.specs.Laws.{BatchesMakeMap}
-use Rattle.bl_store.specs.Logs.{after_batches}
-use Rattle.bl_store.specs.Stored.{Stored, Opens, HasNextLog}
+use Rattle.bl_logstore.specs.declared.error.StoreErr.{StoreErr}
+use Rattle.bl_logstore.specs.declared.error.StoreErr.TheVariants as store
+use Rattle.bl_logstore.specs.Causes.{IsOpening as IsStoreOpening, IsUntouched as IsUntouchedStore}
+use Rattle.bl_logstore.specs.Damage.{IsDamaged}
+use Rattle.bl_logstore.specs.Folders.{Stands}
+use Rattle.bl_logstore.specs.Laws.{BatchesMakeMap}
+use Rattle.bl_logstore.specs.Logs.{after_batches}
+use Rattle.bl_logstore.specs.Stored.{Stored, Opens, HasNextLog}
 use Rattle.bl_shell.specs.Machine.{Start}
 use Rattle.bl_shell.specs.declared.stop.Stop.{Stop}
 use Rattle.bl_shell.specs.declared.stop.Stop.TheVariants as stop
@@ -19,7 +19,7 @@ use Rattle.bl_shell.specs.Causes.{IsForScript, IsNotOfScript, IsReading, IsSilen
 use Rattle.bl_shell.specs.Carried.{StandsAtStart, TellsFront}
 use Rattle.bl_shell.specs.Cuts.{IsPastOpening, StopsBeforeScript}
 use Rattle.bl_shell.specs.Telling.{IsStartOf, HasBegun, HasFaltered, HasEnded, PassesIn, IsFull, corrupt_line, full_line}
-use Rattle.bl_store.proofs.OtherLemmas.{same_no_next}
+use Rattle.bl_logstore.proofs.OtherLemmas.{same_no_next}
 use Rattle.bl_shell.proofs.BreakLemmas.{breaks_in}
 use Rattle.bl_shell.proofs.LimitLemmas.{ends}
 use Rattle.bl_shell.proofs.TellLemmas.{tells_nothing}

@@ -4,8 +4,8 @@ use Rattle.std.specs.Option.{option_map}
 use Rattle.std.proofs.lemmas.List.{nil_from_length}
 use Rattle.bl_site.specs.Disk.{Name, File, Disk, Cut, IsRemnant, IsLeft, IsCut, written_of}
 use Rattle.bl_wal.specs.LogFile.{log_name}
-use Rattle.bl_store.specs.Cuts.{HasData, HasBytes, AreLeftWhole, AreWhole}
-use Rattle.bl_store.specs.Stored.{IsSynced}
+use Rattle.bl_logstore.specs.Cuts.{HasData, HasBytes, AreLeftWhole, AreWhole}
+use Rattle.bl_logstore.specs.Stored.{IsSynced}
 use Rattle.bl_shell.specs.Cuts.{as_it_reads}
 use Rattle.bl_shell.proofs.CrashLemmas.{as_read}
 

@@ -14,10 +14,10 @@ use Rattle.bl_script.specs.Parsing.{parsed}
 use Rattle.bl_script.specs.Printing.{ok_line}
 use Rattle.bl_wal.specs.LogFile.{log_name}
 use Rattle.bl_records.specs.Chance.{NoChanceMatch}
-use Rattle.bl_store.specs.Cuts.{AreLeftWhole}
-use Rattle.bl_store.specs.Folders.{Stands}
-use Rattle.bl_store.specs.Logs.{after_batches}
-use Rattle.bl_store.specs.Stored.{Stored, Carries}
+use Rattle.bl_logstore.specs.Cuts.{AreLeftWhole}
+use Rattle.bl_logstore.specs.Folders.{Stands}
+use Rattle.bl_logstore.specs.Logs.{after_batches}
+use Rattle.bl_logstore.specs.Stored.{Stored, Carries}
 use Rattle.bl_shell.specs.declared.lines.LineInHand.{LineInHand}
 use Rattle.bl_shell.specs.Machine.{State, Write, Line, Step, Runs, IsHistory, orders, orders_of, reply_of, writes_of, told_by, written_by, operations_in, numbered, reopens, reopens_in, Start}
 use Rattle.bl_shell.specs.Synced.{syncs, before_sync, CutOf}

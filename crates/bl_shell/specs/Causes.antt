@@ -4,8 +4,8 @@ use Rattle.bl_site.specs.Causes.{Rose}
 use Rattle.bl_site.specs.declared.site.Site.{Ghosts}
 use Rattle.bl_site.specs.declared.site.SiteErr.{SiteErr}
 use Rattle.bl_site.specs.declared.site.SiteErr.TheVariants as site
-use Rattle.bl_store.specs.declared.error.StoreErr.{StoreErr}
-use Rattle.bl_store.specs.declared.error.StoreErr.TheVariants as store
+use Rattle.bl_logstore.specs.declared.error.StoreErr.{StoreErr}
+use Rattle.bl_logstore.specs.declared.error.StoreErr.TheVariants as store
 use Rattle.bl_shell.specs.Carried.{TellsFront}
 use Rattle.bl_shell.specs.declared.stop.Stop.{Stop}
 use Rattle.bl_shell.specs.declared.stop.Stop.TheVariants as stop

@@ -5,9 +5,9 @@ use Rattle.bl_site.specs.Disk.{Name, Folder, Disk, Cut, MayLeave, folder_of, wri
 use Rattle.bl_names.specs.Names.{IsNumber}
 use Rattle.bl_script.specs.declared.command.Parsed.{Parsed}
 use Rattle.bl_wal.specs.LogFile.{log_name}
-use Rattle.bl_store.specs.Cuts.{BeforeBarrier, AreWhole}
-use Rattle.bl_store.specs.Folders.{LogStands}
-use Rattle.bl_store.specs.Stored.{IsSynced, HasNextLog}
+use Rattle.bl_logstore.specs.Cuts.{BeforeBarrier, AreWhole}
+use Rattle.bl_logstore.specs.Folders.{LogStands}
+use Rattle.bl_logstore.specs.Stored.{IsSynced, HasNextLog}
 use Rattle.bl_shell.specs.Machine.{State, Line, IsHistory, orders, orders_of, Start}
 use Rattle.bl_shell.specs.Synced.{CutOf}
 use Rattle.bl_shell.specs.declared.status.Status.{Status}

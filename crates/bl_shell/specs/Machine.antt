@@ -14,7 +14,7 @@ use Rattle.bl_script.specs.declared.command.Parsed.TheVariants.{Nothing, Refused
 use Rattle.bl_script.specs.Lines.{lines, whole_lines}
 use Rattle.bl_script.specs.Parsing.{parsed}
 use Rattle.bl_script.specs.Printing.{ok_line, end_line, value_line, pair_line, refusal_line}
-use Rattle.bl_store.specs.Pairs.{pairs_between}
+use Rattle.bl_logstore.specs.Pairs.{pairs_between}
 
 -- the state: a map
 pub record State : Type 0 where

@@ -7,8 +7,8 @@ use Rattle.bl_script.specs.declared.command.Command.TheVariants as command
 use Rattle.bl_script.specs.declared.command.Parsed.{Parsed}
 use Rattle.bl_script.specs.declared.command.Parsed.TheVariants.{Nothing, Refused, Go}
 use Rattle.bl_records.specs.Chance.{NoChanceMatch}
-use Rattle.bl_store.specs.Cuts.{AreLeftWhole}
-use Rattle.bl_store.specs.Folders.{LogStands}
+use Rattle.bl_logstore.specs.Cuts.{AreLeftWhole}
+use Rattle.bl_logstore.specs.Folders.{LogStands}
 use Rattle.bl_shell.specs.Machine.{State, Line, IsHistory, told_by, written_by, operations_in, after_writes, Start}
 
 -- its reply says that all writes before it are on the disk

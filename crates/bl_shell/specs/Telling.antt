@@ -6,8 +6,8 @@ use Rattle.bl_entry.specs.Batches.{Batch}
 use Rattle.bl_entry.specs.Revisions.{Map, revisions_of, IsMapAt}
 use Rattle.bl_script.specs.declared.command.Parsed.{Parsed}
 use Rattle.bl_wal.specs.LogFile.{log_name}
-use Rattle.bl_store.specs.Folders.{Stands, IsNext}
-use Rattle.bl_store.specs.Damage.{IsDamaged}
+use Rattle.bl_logstore.specs.Folders.{Stands, IsNext}
+use Rattle.bl_logstore.specs.Damage.{IsDamaged}
 use Rattle.bl_shell.specs.Machine.{State, Line, IsHistory, Runs, orders, whole_orders, orders_of, told_by, written_by, operations_in, numbered, reopens_in, Start, Fits}
 use Rattle.bl_shell.specs.Synced.{whole_within}
 use Rattle.bl_shell.specs.Carried.{Keeps, TellsFront, Passes}

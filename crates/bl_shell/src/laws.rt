@@ -2,7 +2,7 @@
 
 ghost use Rattle.bl_shell.specs.Laws.{NoReplyIsBeforeTheBarrier, ToldSyncsAreKept};
 
-use bl_store::batches_are_once;
+use bl_logstore::batches_are_once;
 
 /// One such cut: on an empty folder `put a =1` and `sync` were answered, and no file is left. No clause of `run` on its cuts
 /// allows it.

@@ -10,8 +10,8 @@ ghost use Rattle.bl_script.specs.Limits.{IsWithinLimits, IsCommand};
 ghost use Rattle.bl_script.specs.Printing.{ok_line, end_line, pair_line};
 ghost use Rattle.bl_wal.specs.LogFile.{log_name};
 ghost use Rattle.bl_wal.specs.Held.{Batches};
-ghost use Rattle.bl_store.specs.Pairs.{pairs_between};
-ghost use Rattle.bl_store.specs.Stored.{KeepsOthers};
+ghost use Rattle.bl_logstore.specs.Pairs.{pairs_between};
+ghost use Rattle.bl_logstore.specs.Stored.{KeepsOthers};
 ghost use Rattle.bl_shell.specs.Machine.{writes_of, reply_of, reply};
 ghost use Rattle.bl_shell.specs.Carried.{IsServable, TellsFront, Obeyed, Passes, HasRoom, IsWrite, IsTold, CutIn, CutTelling};
 ghost use Rattle.bl_shell.specs.Causes.{IsSilent, HasStopCauses};
@@ -22,7 +22,7 @@ use crate::stop::Stop;
 use bl_entry::Batch;
 use bl_script::{Command, Parsed, Refusal, print_refusal, print_value};
 use bl_site::Site;
-use bl_store::{Store, batches_are_once, cuts_stand, damaged_do_not_stand, stores_stand};
+use bl_logstore::{Store, batches_are_once, cuts_stand, damaged_do_not_stand, stores_stand};
 use std::alloc::Global;
 
 // A write, and its reply.

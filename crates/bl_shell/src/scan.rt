@@ -4,7 +4,7 @@ ghost use Rattle.std.specs.Prelude.{◌≡◌, ◌≤◌, ◌⊎◌, ◌++◌, I
 ghost use Rattle.std.specs.Option.{option_copied};
 ghost use Rattle.bl_site.specs.Calls.{LeavesOnly};
 ghost use Rattle.bl_site.specs.Causes.{Rose};
-ghost use Rattle.bl_store.specs.Stored.{KeepsOthers};
+ghost use Rattle.bl_logstore.specs.Stored.{KeepsOthers};
 ghost use Rattle.bl_shell.specs.Machine.{reply};
 ghost use Rattle.bl_shell.specs.Carried.{TellsFront, CutTelling};
 
@@ -12,7 +12,7 @@ use crate::stop::Stop;
 use bl_code::Octets;
 use bl_script::{Command, append_pair};
 use bl_site::Site;
-use bl_store::Store;
+use bl_logstore::Store;
 use std::alloc::Global;
 
 // Once so many bytes of lines wait, they are told.

@@ -4,7 +4,7 @@ ghost use Rattle.std.specs.Prelude.{◌≡◌, ℕ, ◌+◌, ◌-◌, ◌<◌, �
 ghost use Rattle.bl_site.specs.Disk.{Name, Folder, folder_of};
 ghost use Rattle.bl_site.specs.Calls.{LeavesOnly};
 ghost use Rattle.bl_site.specs.Causes.{Rose};
-ghost use Rattle.bl_store.specs.Stored.{KeepsOthers};
+ghost use Rattle.bl_logstore.specs.Stored.{KeepsOthers};
 ghost use Rattle.bl_shell.specs.Causes.{IsNotOfScript, IsReading, IsSilent, TookOver};
 ghost use Rattle.bl_shell.specs.Carried.{Carried, StandsAtStart, Finished, Steady, NoLineEnd};
 ghost use Rattle.bl_shell.specs.Cuts.{IsKept, Stops};
@@ -16,7 +16,7 @@ use crate::lines::LineInHand;
 use crate::obey::obey;
 use crate::stop::Stop;
 use bl_site::{Site, Source};
-use bl_store::{
+use bl_logstore::{
     Store, batches_make_the_map, cuts_stand, older_logs_are_synced, stores_stand,
     synced_stores_are_left,
 };

@@ -7,7 +7,7 @@ ghost use Rattle.bl_shell.specs.declared.stop.Stop.TheVariants.{Read, OutOfMemor
 use bl_code::{CodeErr, Octets};
 use bl_script::ScriptErr;
 use bl_site::{SiteErr, SourceErr};
-use bl_store::StoreErr;
+use bl_logstore::StoreErr;
 use std::alloc::{AllocError, AllocFailed};
 
 // Why a run stops, with what the line says that is told of it.

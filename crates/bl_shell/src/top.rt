@@ -5,9 +5,9 @@ ghost use Rattle.bl_site.specs.Disk.{Name, folder_of};
 ghost use Rattle.bl_site.specs.Calls.{LeavesOnly, Tells};
 ghost use Rattle.bl_site.specs.Causes.{Rose};
 ghost use Rattle.bl_wal.specs.LogFile.{log_name};
-ghost use Rattle.bl_store.specs.Cuts.{AreWhole};
-ghost use Rattle.bl_store.specs.Damage.{IsDamaged};
-ghost use Rattle.bl_store.specs.Stored.{KeepsOthers, HasNextLog};
+ghost use Rattle.bl_logstore.specs.Cuts.{AreWhole};
+ghost use Rattle.bl_logstore.specs.Damage.{IsDamaged};
+ghost use Rattle.bl_logstore.specs.Stored.{KeepsOthers, HasNextLog};
 ghost use Rattle.bl_shell.specs.Causes.{IsNotOfScript, IsOpening, IsReading, IsOfDamaged, IsSilent, TookOver, status_of, MayEnd, EndsAs};
 ghost use Rattle.bl_shell.specs.Carried.{TellsFront};
 ghost use Rattle.bl_shell.specs.Cuts.{CutInRun, CutOfRun, CutPast, CutStands, FromSomeMoment, StopsBeforeScript, HasStopped, IsKept, IsPastOpening, StopsRun, TellsError, as_it_reads};
@@ -19,7 +19,7 @@ use crate::status::Status;
 use crate::stop::Stop;
 use bl_code::Octets;
 use bl_site::{Site, SiteErr, Source};
-use bl_store::{
+use bl_logstore::{
     Store, batches_make_the_map, cuts_stand, damaged_do_not_stand, older_logs_are_synced,
 };
 use std::alloc::Global;

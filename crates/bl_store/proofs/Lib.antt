@@ -1,18 +1,14 @@
-mod LogLemmas
-mod BatchLemmas
-mod MapLemmas
-mod EntryLemmas
-mod NumberLemmas
-mod NameLemmas
-mod FolderLemmas
-mod StandLemmas
-mod CarryLemmas
-mod CutLemmas
+mod SyncedLemmas
+mod HeldLemmas
 mod MomentLemmas
-mod BarrierLemmas
-mod OpenLemmas
-mod OperationLemmas
-mod ReplayLemmas
-mod QuietLemmas
-pub mod OtherLemmas
-pub mod BehindLemmas
+mod NumberLemmas
+mod OwnLemmas
+mod BreakLemmas
+mod LogLemmas
+mod AppendLemmas
+mod SwitchLemmas
+mod InstallLemmas
+mod FlushLemmas
+mod InsertLemmas
+mod ComposeLemmas
+mod BesideLemmas

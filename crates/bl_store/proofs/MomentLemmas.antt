@@ -1,78 +1,63 @@
--- What a cut leaves of a store's disk, in one call.
-use Rattle.std.proofs.Common.{◌≡◌, ◌⊎◌, ⊎_elim, ℕ, ◌≤◌, List, ◌++◌, sym, subst, arith, length-append}
-use Rattle.std.proofs.lemmas.List.{take-append-le}
-use Rattle.bl_site.specs.Disk.{Disk, Cut, IsCut, MayLeave}
-use Rattle.bl_site.specs.Calls.{Elapses, LeavesOnly}
+-- What a cut leaves during a call of a store.
+use Rattle.std.proofs.Common.{◌≡◌, ◌⊎◌, inl, inr, ⊎_elim, ℕ, ◌+◌, ◌≤◌, List, [], ◌∷◌, ◌++◌, length, refl, sym, ◌∙◌, ap, subst, arith}
+use Rattle.bl_site.specs.Disk.{Cut, Disk, IsCut, MayLeave}
+use Rattle.bl_site.specs.Calls.{Elapses, LeavesOnly, MayDuring}
 use Rattle.bl_site.specs.declared.site.Site.{Ghosts}
-use Rattle.bl_site.proofs.Moments.{started, goes_on, cut_of_only}
-use Rattle.bl_entry.specs.Batches.{Batch}
-use Rattle.bl_wal.specs.LogFile.{LogFile}
-use Rattle.bl_store.specs.Folders.{Stands}
-use Rattle.bl_store.specs.Laws.{CutsStand}
-use Rattle.bl_store.specs.Stored.{StandsOn}
-use Rattle.bl_store.specs.Cuts.{LeavesFirst}
-use Rattle.bl_store.proofs.CutLemmas.{OnlyNow}
+use Rattle.bl_site.proofs.Moments.{certain_call, cut_of_only, joins, name_call, started}
+use Rattle.bl_entry.specs.declared.batch.Operation.{Operation}
+use Rattle.bl_folder.specs.Settled.{IsSettled}
+use Rattle.bl_manifest.specs.ManifestFile.{ManifestFile}
+use Rattle.bl_open.specs.SteadyCuts.{LeavesMap}
+use Rattle.bl_open.specs.SteadyLaws.{CutsOfSteady, SteadyAreSettled}
+use Rattle.bl_store.specs.Stored.{Stored}
+use Rattle.bl_store.specs.Held.{Held, maps_of, with_write}
+use Rattle.bl_store.specs.Standing.{StandsFor}
+use Rattle.bl_store.proofs.HeldLemmas.{leaves_agree, leaves_within, maps_more}
 
--- at least so many are at least fewer
-pub at_least : (older own : List Batch) (fewer least : ℕ) (told : List ℕ) (c : Cut) → fewer ≤ least → LeavesFirst older own least told c → LeavesFirst older own fewer told c
-at_least older own fewer least told c le leaves = record {
-  told_is = leaves.told_is;
-  whole = leaves.whole;
-  stands = λ chance. let s = leaves.stands chance in (s.0, omega (arith, le, s.1), s.2, s.3);
-}
+-- what a cut leaves of a store that stands
+pub cut_of : CutsOfSteady → (held : Held) (store : Stored) (disk : Disk) (told : List ℕ) (c : Cut) → StandsFor [] held store disk → IsCut disk told c → LeavesMap (maps_of held) held.durable (length held.writes) told c
+cut_of law held store disk told c t cut =
+    let writes = t.writes in
+    leaves_within (maps_of held) _ held.durable _ (length held.writes) told c t.durable (omega (arith, writes)) (law (maps_of held) t.steady disk told c t.is_steady cut)
 
--- the first ones are the first ones of more
-pub of_more : (older own more : List Batch) (least : ℕ) (told : List ℕ) (c : Cut) → LeavesFirst older own least told c → LeavesFirst older (own ++ more) least told c
-of_more older own more least told c leaves = record {
-  told_is = leaves.told_is;
-  whole = leaves.whole;
-  stands = λ chance.
-      let s = leaves.stands chance in
-      let P : List Batch → Type 0 = λ bs. Stands c.folder (older ++ bs) s.3.0 in
-      (s.0, s.1, omega (arith, s.2, length-append own more), (s.3.0, subst P (sym (take-append-le s.0 own more s.2)) s.3.1));
-}
+-- a store that stands is on a settled disk
+pub settled_of : SteadyAreSettled → (held : Held) (store : Stored) (disk : Disk) → StandsFor [] held store disk → store.manifest.failed ≡ Rattle.std.proofs.Common.false → IsSettled disk
+settled_of law held store disk t usable = law (maps_of held) t.steady disk t.is_steady (ap (λ (m : ManifestFile). m.failed) t.carries.manifest ∙ usable)
 
-module _ {D : Type 0} (g : Ghosts D) (stand : CutsStand)
-    (old : D) (only_now : OnlyNow g old) (only : (other : Disk) → g.may_be old other → other ≡ g.disk old) where
-  -- one call more, after which no name call is in doubt
-  one_stands : (new : D) (P : List ℕ → Cut → Type 0) → g.told new ≡ g.told old → ((other : Disk) → g.may_be new other → other ≡ g.disk new)
+-- a cut for what is held is one for it with a write more
+pub cut_more : (held : Held) (w : List Operation) (least : ℕ) (told : List ℕ) (c : Cut) → LeavesMap (maps_of held) least (length held.writes) told c → LeavesMap (maps_of (with_write w held)) least (length held.writes + 1) told c
+cut_more held w least told c l =
+    leaves_within (maps_of (with_write w held)) least least (length held.writes) (length held.writes + 1) told c (omega arith) (omega arith)
+    (leaves_agree (maps_of held) (maps_of (with_write w held)) least (length held.writes) told c (λ n le. maps_more held w n le) l)
+
+module _ {S : Type 0} (g : Ghosts S) where
+  abbrev pub IsOnly : S → Type 0
+  IsOnly site = (other : Disk) → g.may_be site other → other ≡ g.disk site
+
+  abbrev pub IsNow : S → Type 0
+  IsNow site = (c : Cut) → g.left_since site (g.clock site) c → MayLeave (g.may_be site) (g.told site) c
+
+  -- no call was made
+  pub no_call : (old : S) (P : List ℕ → Cut → Type 0) → IsOnly old → IsNow old → ((c : Cut) → IsCut (g.disk old) (g.told old) c → P (g.told old) c) → LeavesOnly g.clock g.left_since old old (P (g.told old))
+  no_call old P only now here =
+      started g.clock g.left_since old (P (g.told old)) (λ c left. here c (cut_of_only (g.may_be old) (g.disk old) (g.told old) c only (now c left)))
+
+  -- one call, behind which no name call is in doubt
+  pub one_call : (old new : S) (P : List ℕ → Cut → Type 0) → IsOnly old → IsNow old → IsOnly new → g.told new ≡ g.told old
       → Elapses (g.clock old) (g.clock new) (g.left_since old) (g.left_since new) (MayLeave (g.may_be new) (g.told new))
       → ((c : Cut) → IsCut (g.disk old) (g.told old) c → P (g.told old) c) → ((c : Cut) → IsCut (g.disk new) (g.told new) c → P (g.told new) c) → LeavesOnly g.clock g.left_since old new (P (g.told old))
-  one_stands new P same only_new time before after =
-      goes_on g.clock g.left_since old old new (P (g.told old)) (MayLeave (g.may_be new) (g.told new))
-      (started g.clock g.left_since old (P (g.told old)) (λ c left. before c (cut_of_only (g.may_be old) (g.disk old) (g.told old) c only (only_now c left)))) time
-      (λ c leaves. subst (λ (t : List ℕ). P t c) same (after c (cut_of_only (g.may_be new) (g.disk new) (g.told new) c only_new leaves)))
+  one_call old new P only now only_new same time before after =
+      certain_call g.clock g.left_since g.disk g.told g.may_be old old new (P (g.told old)) (no_call old P only now before) time only_new
+      (λ c cut. subst (λ (t : List ℕ). P t c) same (after c cut))
 
-  module _ (log : LogFile) (older own : List Batch) (synced last : ℕ) (on : StandsOn log older own synced last (g.disk old)) where
-    -- no call
-    pub still_stands : LeavesOnly g.clock g.left_since old old (LeavesFirst older own synced (g.told old))
-    still_stands =
-        started g.clock g.left_since old (LeavesFirst older own synced (g.told old))
-        (λ c left. stand log older own synced last (g.disk old) (g.told old) c on (cut_of_only (g.may_be old) (g.disk old) (g.told old) c only (only_now c left)))
+  -- one name call
+  pub one_name_call : (call : Disk → Disk → Type 0) (old new : S) (P : List ℕ → Cut → Type 0) → IsOnly old → IsNow old
+      → Elapses (g.clock old) (g.clock new) (g.left_since old) (g.left_since new) (MayLeave (MayDuring call (g.may_be old)) (g.told old))
+      → ((c : Cut) → IsCut (g.disk old) (g.told old) c → P (g.told old) c) → ((after : Disk) (c : Cut) → call (g.disk old) after → IsCut after (g.told old) c → P (g.told old) c) → LeavesOnly g.clock g.left_since old new (P (g.told old))
+  one_name_call call old new P only now time before after =
+      name_call g.clock g.left_since g.disk g.told g.may_be call old old new (P (g.told old)) (no_call old P only now before) time only before after
 
-    pub still_stands_more : (more : List Batch) → LeavesOnly g.clock g.left_since old old (LeavesFirst older (own ++ more) synced (g.told old))
-    still_stands_more more =
-        started g.clock g.left_since old (LeavesFirst older (own ++ more) synced (g.told old))
-        (λ c left. of_more older own more synced (g.told old) c (stand log older own synced last (g.disk old) (g.told old) c on (cut_of_only (g.may_be old) (g.disk old) (g.told old) c only (only_now c left))))
-
-    -- an append, whatever was answered
-    pub append_stands : (new : D) (log_next : LogFile) (more : List Batch) (last_next : ℕ) → g.told new ≡ g.told old → ((other : Disk) → g.may_be new other → other ≡ g.disk new)
-        → Elapses (g.clock old) (g.clock new) (g.left_since old) (g.left_since new) (MayLeave (g.may_be new) (g.told new))
-        → StandsOn log_next older own synced last (g.disk new) ⊎ StandsOn log_next older (own ++ more) synced last_next (g.disk new)
-        → LeavesOnly g.clock g.left_since old new (LeavesFirst older (own ++ more) synced (g.told old))
-    append_stands new log_next more last_next same only_new time after =
-        one_stands new (LeavesFirst older (own ++ more) synced) same only_new time
-        (λ c is. of_more older own more synced (g.told old) c (stand log older own synced last (g.disk old) (g.told old) c on is))
-        (λ c is. ⊎_elim
-        (λ s. of_more older own more synced (g.told new) c (stand log_next older own synced last (g.disk new) (g.told new) c s is))
-        (λ s. stand log_next older (own ++ more) synced last_next (g.disk new) (g.told new) c s is)
-        after)
-
-    -- a sync, whatever was answered
-    pub sync_stands : (new : D) (log_next : LogFile) (synced_next : ℕ) → g.told new ≡ g.told old → ((other : Disk) → g.may_be new other → other ≡ g.disk new)
-        → Elapses (g.clock old) (g.clock new) (g.left_since old) (g.left_since new) (MayLeave (g.may_be new) (g.told new))
-        → synced ≤ synced_next → StandsOn log_next older own synced_next last (g.disk new)
-        → LeavesOnly g.clock g.left_since old new (LeavesFirst older own synced (g.told old))
-    sync_stands new log_next synced_next same only_new time le after =
-        one_stands new (LeavesFirst older own synced) same only_new time (λ c is. stand log older own synced last (g.disk old) (g.told old) c on is)
-        (λ c is. at_least older own synced synced_next (g.told new) c le (stand log_next older own synced_next last (g.disk new) (g.told new) c after is))
+  -- one part of a call after another
+  pub both_parts : (old mid new : S) (P : List ℕ → Cut → Type 0) → g.told mid ≡ g.told old → LeavesOnly g.clock g.left_since old mid (P (g.told old)) → LeavesOnly g.clock g.left_since mid new (P (g.told mid)) → LeavesOnly g.clock g.left_since old new (P (g.told old))
+  both_parts old mid new P same first second =
+      joins g.clock g.left_since old mid new (P (g.told old)) first (subst (λ (t : List ℕ). LeavesOnly g.clock g.left_since mid new (P t)) same second)

@@ -1,65 +1,43 @@
 -- Why a call of a store fails.
-use Rattle.bl_site.specs.declared.site.SiteErr.{SiteErr}
-use Rattle.bl_site.specs.declared.site.SiteErr.TheVariants as site
+use Rattle.std.specs.Prelude.{◌≡◌, ◌⊎◌, ◌^◌}
 use Rattle.bl_wal.specs.declared.error.WalErr.{WalErr}
 use Rattle.bl_wal.specs.declared.error.WalErr.TheVariants as wal
+use Rattle.bl_manifest.specs.declared.error.ManifestErr.{ManifestErr}
+use Rattle.bl_manifest.specs.declared.error.ManifestErr.TheVariants as manifest
+use Rattle.bl_out.specs.declared.error.JobErr.{JobErr}
+use Rattle.bl_out.specs.declared.error.JobErr.TheVariants as job
+use Rattle.bl_open.specs.declared.error.OpenErr.{OpenErr}
+use Rattle.bl_open.specs.declared.error.OpenErr.TheVariants as opening
 use Rattle.bl_store.specs.declared.error.StoreErr.{StoreErr}
-use Rattle.bl_store.specs.declared.error.StoreErr.TheVariants.{Disk, OutOfMemory, Corrupt, Full, Broken}
+use Rattle.bl_store.specs.declared.error.StoreErr.TheVariants.{Disk, OutOfMemory, Corrupt, Full, Differ}
 
-abbrev pub error_of : SiteErr → StoreErr
-error_of site.DiskFailed = Disk
-error_of site.TellFailed = Disk
-error_of site.OutOfMemory = OutOfMemory
+abbrev pub of_log : WalErr → StoreErr
+of_log wal.Disk = Disk
+of_log (wal.Corrupt name place) = Corrupt name place
+of_log wal.OutOfMemory = OutOfMemory
 
-abbrev pub error_of_log : WalErr → StoreErr
-error_of_log wal.Disk = Disk
-error_of_log (wal.Corrupt name place) = Corrupt name place
-error_of_log wal.OutOfMemory = OutOfMemory
+abbrev pub of_manifest : ManifestErr → StoreErr
+of_manifest manifest.Disk = Disk
+of_manifest (manifest.Corrupt name place) = Corrupt name place
+of_manifest manifest.OutOfMemory = OutOfMemory
 
--- how an opening may fail
-abbrev pub IsOpening : StoreErr → Type 0
-IsOpening Disk = Unit {0}
-IsOpening OutOfMemory = Unit {0}
-IsOpening (Corrupt name place) = Unit {0}
-IsOpening (Full number) = Unit {0}
-IsOpening Broken = ⊥
+abbrev pub of_job : JobErr → StoreErr
+of_job job.Disk = Disk
+of_job (job.Corrupt name place) = Corrupt name place
+of_job (job.Full next) = Full next
+of_job job.OutOfMemory = OutOfMemory
 
--- how a write may fail
-abbrev pub IsWriting : StoreErr → Type 0
-IsWriting Disk = Unit {0}
-IsWriting OutOfMemory = Unit {0}
-IsWriting (Corrupt name place) = ⊥
-IsWriting (Full number) = Unit {0}
-IsWriting Broken = Unit {0}
+abbrev pub of_opening : OpenErr → StoreErr
+of_opening opening.Disk = Disk
+of_opening (opening.Corrupt name place) = Corrupt name place
+of_opening (opening.Full next) = Full next
+of_opening (opening.Differ option stored asked) = Differ option stored asked
+of_opening opening.OutOfMemory = OutOfMemory
 
--- a failure after which nothing was written: an opening may have listed, synced and read, a write and a sync have asked the folder for nothing
-abbrev pub IsUntouched : StoreErr → Type 0
-IsUntouched Disk = ⊥
-IsUntouched OutOfMemory = ⊥
-IsUntouched (Corrupt name place) = Unit {0}
-IsUntouched (Full number) = Unit {0}
-IsUntouched Broken = Unit {0}
-
--- how a sync of logs may fail
+-- how a sync may fail
 abbrev pub IsSyncing : StoreErr → Type 0
-IsSyncing Disk = Unit {0}
-IsSyncing OutOfMemory = Unit {0}
-IsSyncing (Corrupt name place) = ⊥
-IsSyncing (Full number) = ⊥
-IsSyncing Broken = ⊥
+IsSyncing e = (e ≡ Disk) ⊎ (e ≡ OutOfMemory)
 
--- how a replay may fail
-abbrev pub IsReading : StoreErr → Type 0
-IsReading Disk = Unit {0}
-IsReading OutOfMemory = Unit {0}
-IsReading (Corrupt name place) = Unit {0}
-IsReading (Full number) = ⊥
-IsReading Broken = ⊥
-
--- how a sync of the log in use may fail
-abbrev pub IsEnding : StoreErr → Type 0
-IsEnding Disk = Unit {0}
-IsEnding OutOfMemory = Unit {0}
-IsEnding (Corrupt name place) = ⊥
-IsEnding (Full number) = ⊥
-IsEnding Broken = Unit {0}
+-- how a call may fail that makes files
+abbrev pub IsMaking : StoreErr → Type 0
+IsMaking e = (e ≡ Disk) ⊎ ((e ≡ OutOfMemory) ⊎ (e ≡ Full (10 ^ 15)))

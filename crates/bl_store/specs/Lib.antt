@@ -1,10 +1,8 @@
-pub mod Logs
-pub mod Folders
-pub mod Damage
-pub mod Pairs
 pub mod Stored
+pub mod Synced
+pub mod Held
+pub mod Standing
 pub mod Causes
-pub mod Cuts
-pub mod Laws
-pub mod Listing
-pub mod Replaying
+pub mod Calls
+pub mod Switching
+pub mod Flushing

@@ -3,7 +3,7 @@
 use bl_code::Octets;
 use bl_entry::Batch;
 use bl_site_mem::MemSite;
-use bl_store::{Store, StoreErr};
+use bl_logstore::{Store, StoreErr};
 use std::alloc::Global;
 use std::test::Fail;
 

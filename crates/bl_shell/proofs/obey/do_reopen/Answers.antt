@@ -4,8 +4,8 @@ use Rattle.bl_site.proofs.Moments.{widened}
 use Rattle.bl_script.specs.Printing.{ok_line}
 use Rattle.bl_script.specs.declared.command.Command.TheVariants.{Reopen}
 use Rattle.bl_script.specs.declared.command.Parsed.TheVariants.{Nothing, Go}
-use Rattle.bl_store.specs.declared.error.StoreErr.TheVariants as store
-use Rattle.bl_store.specs.Causes.{IsUntouched}
+use Rattle.bl_logstore.specs.declared.error.StoreErr.TheVariants as store
+use Rattle.bl_logstore.specs.Causes.{IsUntouched}
 use Rattle.bl_shell.specs.Carried.{TellsFront}
 use Rattle.bl_code.proofs.Basics.{on_any_err}
 use Rattle.bl_shell.proofs.CutLemmas.{cut_quiet, leaves_first, least_within}
@@ -14,7 +14,7 @@ use Rattle.bl_shell.proofs.StayLemmas.{reopened_line, stays_reopened, stands, co
 use Rattle.bl_shell.proofs.TellLemmas.{no_corrupt, no_limit, tell_broke, tells_nothing, each_err}
 use Rattle.bl_shell.proofs.LimitLemmas.{reopened_room}
 use Rattle.bl_shell.proofs.TopLemmas.{stop_full, stop_not_tell}
-use Rattle.bl_store.proofs.OtherLemmas.{others_same, others_then}
+use Rattle.bl_logstore.proofs.OtherLemmas.{others_same, others_then}
 use Rattle.bl_shell.proofs.obey.do_reopen.Goals as goal
 
 pub returns-in_err-store-clause-front : goal.returns-in_err-store-clause-front

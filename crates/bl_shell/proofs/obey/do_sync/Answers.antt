@@ -10,7 +10,7 @@ use Rattle.bl_shell.proofs.MomentLemmas.{replied}
 use Rattle.bl_shell.proofs.StayLemmas.{synced_line, stays_synced}
 use Rattle.bl_shell.proofs.TellLemmas.{tell_broke, tells_nothing, each_err}
 use Rattle.bl_shell.proofs.TopLemmas.{stop_not_tell}
-use Rattle.bl_store.proofs.OtherLemmas.{log_alone, others_same, others_then}
+use Rattle.bl_logstore.proofs.OtherLemmas.{log_alone, others_same, others_then}
 use Rattle.bl_shell.proofs.obey.do_sync.Goals as goal
 
 pub returns-in_err-sync-clause-front : goal.returns-in_err-sync-clause-front

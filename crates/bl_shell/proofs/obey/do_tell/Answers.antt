@@ -3,7 +3,7 @@ use Rattle.bl_code.proofs.Basics.{on_any_err}
 use Rattle.bl_shell.proofs.MomentLemmas.{telling}
 use Rattle.bl_shell.proofs.StayLemmas.{told_only}
 use Rattle.bl_shell.proofs.TellLemmas.{tell_broke}
-use Rattle.bl_store.proofs.OtherLemmas.{others_same}
+use Rattle.bl_logstore.proofs.OtherLemmas.{others_same}
 use Rattle.bl_shell.proofs.obey.do_tell.Goals as goal
 
 pub returns-in_err-tell-clause-front : goal.returns-in_err-tell-clause-front

@@ -5,8 +5,8 @@ use Rattle.bl_site.specs.Disk.{folder_of}
 use Rattle.bl_site.proofs.Moments.{widened}
 use Rattle.bl_script.specs.Printing.{ok_line}
 use Rattle.bl_script.specs.declared.command.Parsed.TheVariants.{Nothing}
-use Rattle.bl_store.specs.declared.error.StoreErr.TheVariants as store
-use Rattle.bl_store.specs.Causes.{IsUntouched}
+use Rattle.bl_logstore.specs.declared.error.StoreErr.TheVariants as store
+use Rattle.bl_logstore.specs.Causes.{IsUntouched}
 use Rattle.bl_shell.specs.Machine.{Write, numbered}
 use Rattle.bl_shell.specs.Synced.{syncs}
 use Rattle.bl_shell.specs.Carried.{TellsFront, IsServable, CutIn}
@@ -17,7 +17,7 @@ use Rattle.bl_shell.proofs.StayLemmas.{wrote_line, stays_wrote}
 use Rattle.bl_shell.proofs.TellLemmas.{no_limit, tell_broke, tells_nothing, each_err}
 use Rattle.bl_shell.proofs.TopLemmas.{stop_full, stop_not_tell}
 use Rattle.bl_shell.proofs.LimitLemmas.{written_room}
-use Rattle.bl_store.proofs.OtherLemmas.{log_alone, others_same, others_then}
+use Rattle.bl_logstore.proofs.OtherLemmas.{log_alone, others_same, others_then}
 use Rattle.bl_shell.proofs.obey.do_write.Goals as goal
 
 pub returns-in_err-write-clause-front : goal.returns-in_err-write-clause-front

@@ -2,7 +2,7 @@ use Rattle.std.proofs.Common.{◌≡◌, ◌≤◌, ◌++◌, List, ℕ, string_
 use Rattle.std.specs.Option.{option_copied}
 use Rattle.bl_site.specs.Calls.{LeavesOnly}
 use Rattle.bl_script.specs.declared.command.Command.TheVariants.{Scan}
-use Rattle.bl_store.specs.Pairs.{pairs_between}
+use Rattle.bl_logstore.specs.Pairs.{pairs_between}
 use Rattle.bl_shell.specs.Carried.{CutTelling, TellsFront}
 use Rattle.bl_shell.specs.Machine.{reply}
 use Rattle.bl_shell.proofs.PairLemmas.{lines_of}

@@ -13,7 +13,7 @@ use Rattle.bl_shell.specs.Telling.{HasBegun, HasFaltered}
 use Rattle.bl_shell.proofs.TellLemmas.{each_err}
 use Rattle.bl_shell.proofs.CarriedLemmas.{pushed, broken, cuts_so_far}
 use Rattle.bl_shell.proofs.PieceLemmas.{line_more, line_follows, rest_follows, piece_ends}
-use Rattle.bl_store.proofs.OtherLemmas.{others_then}
+use Rattle.bl_logstore.proofs.OtherLemmas.{others_then}
 use Rattle.bl_shell.proofs.serve.feed.Goals as goal
 
 pub returns-in_err-push-clause-front : goal.returns-in_err-push-clause-front

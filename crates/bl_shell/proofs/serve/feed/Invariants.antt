@@ -1,6 +1,6 @@
 use Rattle.std.proofs.Common.{◌≡◌, ℕ, ◌-◌, ◌≤◌, false, List, ◌++◌, length, take}
 use Rattle.bl_site.specs.Disk.{Folder}
-use Rattle.bl_store.specs.Stored.{KeepsOthers}
+use Rattle.bl_logstore.specs.Stored.{KeepsOthers}
 use Rattle.bl_shell.specs.Machine.{Start}
 use Rattle.bl_shell.specs.Carried.{Carried, Steady}
 use Rattle.bl_shell.proofs.serve.feed.Given as goal

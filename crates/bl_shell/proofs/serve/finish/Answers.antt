@@ -8,7 +8,7 @@ use Rattle.bl_shell.proofs.TellLemmas.{each_err}
 use Rattle.bl_shell.proofs.EndLemmas.{has_run, all_begun, is_kept, last_cuts}
 use Rattle.bl_shell.proofs.StayLemmas.{log_is_there}
 use Rattle.bl_shell.proofs.TopLemmas.{stop_not_tell}
-use Rattle.bl_store.proofs.OtherLemmas.{log_alone, others_then}
+use Rattle.bl_logstore.proofs.OtherLemmas.{log_alone, others_then}
 use Rattle.bl_shell.proofs.serve.finish.Goals as goal
 
 pub returns-in_err-end_script-clause-front : goal.returns-in_err-end_script-clause-front

@@ -11,7 +11,7 @@ use Rattle.bl_site.specs.Disk.{folder_of}
 use Rattle.bl_shell.proofs.TellLemmas.{each_err}
 use Rattle.bl_shell.proofs.CarriedLemmas.{starts, broken, taken, cut_at_start, cuts_so_far}
 use Rattle.bl_shell.proofs.MomentLemmas.{still}
-use Rattle.bl_store.proofs.OtherLemmas.{others_then}
+use Rattle.bl_logstore.proofs.OtherLemmas.{others_then}
 use Rattle.bl_shell.proofs.serve.serve.Goals as goal
 
 pub reads-init : goal.reads-init

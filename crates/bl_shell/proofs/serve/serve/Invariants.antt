@@ -1,6 +1,6 @@
 use Rattle.std.proofs.Common.{◌≡◌, ℕ, ◌+◌, ◌-◌, ◌≤◌, ◌^◌, false, List, ◌++◌, length, min}
 use Rattle.bl_site.specs.Disk.{Folder}
-use Rattle.bl_store.specs.Stored.{KeepsOthers}
+use Rattle.bl_logstore.specs.Stored.{KeepsOthers}
 use Rattle.bl_shell.specs.Machine.{Start}
 use Rattle.bl_shell.specs.Carried.{Carried, StandsAtStart, Steady}
 use Rattle.bl_shell.proofs.serve.serve.Given as goal

@@ -2,9 +2,9 @@ use Rattle.std.proofs.Common.{◌≡◌, ◌++◌, ℕ, List, [], refl, sym, sub
 use Rattle.bl_site.specs.Disk.{Name, Folder, Disk, folder_of}
 use Rattle.bl_site.specs.Calls.{LeavesOnly}
 use Rattle.bl_site.proofs.Moments.{widened}
-use Rattle.bl_store.specs.Cuts.{AreWhole}
-use Rattle.bl_store.specs.Damage.{IsDamaged}
-use Rattle.bl_store.specs.Stored.{HasNextLog}
+use Rattle.bl_logstore.specs.Cuts.{AreWhole}
+use Rattle.bl_logstore.specs.Damage.{IsDamaged}
+use Rattle.bl_logstore.specs.Stored.{HasNextLog}
 use Rattle.bl_shell.specs.Cuts.{CutPast, CutStands, FromSomeMoment, StopsRun}
 use Rattle.bl_shell.specs.Machine.{orders}
 use Rattle.bl_shell.specs.Telling.{HasTaken, HasFaltered, IsFull}
@@ -12,7 +12,7 @@ use Rattle.bl_shell.specs.declared.stop.Stop.TheVariants as stop
 use Rattle.bl_shell.proofs.CrashLemmas.{ended, ended_behind, unended_behind, unopened_behind, has_stopped, past_ended, past_unended, no_error_yet, reads_since, stop_is_full, untouched}
 use Rattle.bl_shell.proofs.TopLemmas.{ended_front, untold, only_made, stop_is_long, stop_is_reading, words_are_not_past, stop_is_corrupt, corrupt_told, at_the_limit, not_done, refused}
 use Rattle.bl_shell.proofs.WholeLemmas.{whole_disk}
-use Rattle.bl_store.proofs.OtherLemmas.{others_same, others_then}
+use Rattle.bl_logstore.proofs.OtherLemmas.{others_same, others_then}
 use Rattle.bl_shell.proofs.top.run.Given as given
 use Rattle.bl_shell.proofs.top.run.Goals as goal
 

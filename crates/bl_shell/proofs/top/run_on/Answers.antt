@@ -2,15 +2,15 @@ use Rattle.std.proofs.Common.{◌≡◌, ℕ, List, [], ◌∙◌, ap, sym, subs
 use Rattle.std.proofs.lemmas.Result.{err_from_is_err_and, on_ok_weaker, IfErr-weaker}
 use Rattle.bl_site.specs.Disk.{folder_of}
 use Rattle.bl_site.proofs.Moments.{widened, cut_of_only}
-use Rattle.bl_store.specs.declared.error.StoreErr.TheVariants as store
-use Rattle.bl_store.specs.Causes.{IsUntouched}
+use Rattle.bl_logstore.specs.declared.error.StoreErr.TheVariants as store
+use Rattle.bl_logstore.specs.Causes.{IsUntouched}
 use Rattle.bl_shell.specs.Causes.{IsOpening, stop_of_store}
 use Rattle.bl_shell.specs.Cuts.{CutPast, FromSomeMoment, StopsBeforeScript}
 use Rattle.bl_shell.specs.Machine.{orders}
 use Rattle.bl_shell.specs.Telling.{HasRun, HasTaken, HasBegun, HasFaltered}
 use Rattle.bl_shell.proofs.CrashLemmas.{failed_behind, opened_behind, unopened_behind, opened_now, opened_past, opened_then, opened_stops, unopened}
 use Rattle.bl_shell.proofs.TopLemmas.{began_of, not_opened, unasked, begins_open, starts_open, stands_open, opening_stops, stop_full, stop_corrupt, stop_not_tell}
-use Rattle.bl_store.proofs.OtherLemmas.{others_then, same_no_next}
+use Rattle.bl_logstore.proofs.OtherLemmas.{others_then, same_no_next}
 use Rattle.bl_shell.proofs.WholeLemmas.{whole_disk}
 use Rattle.bl_shell.proofs.top.run_on.Given as given
 use Rattle.bl_shell.proofs.top.run_on.Goals as goal

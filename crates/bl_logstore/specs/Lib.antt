@@ -1,0 +1,10 @@
+pub mod Logs
+pub mod Folders
+pub mod Damage
+pub mod Pairs
+pub mod Stored
+pub mod Causes
+pub mod Cuts
+pub mod Laws
+pub mod Listing
+pub mod Replaying

@@ -1,5 +1,0 @@
-use Rattle.bl_store.proofs.StandLemmas.{stores_stand}
-use Rattle.bl_store.proofs.laws.stores_stand.Goals as goal
-
-pub returns : goal.returns
-returns c = stores_stand c.batches_join.ensures.join c.logs_are_read.ensures
