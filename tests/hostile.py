@@ -258,6 +258,22 @@ def early_end(data, wanted):
     return case
 
 
+def no_file_can_be_opened():
+    """With as many files open as the process may have, nothing can be read: standard error says too that the logs were not looked through."""
+
+    def limit():
+        resource.setrlimit(resource.RLIMIT_NOFILE, (4, 4))
+
+    with tempfile.TemporaryDirectory() as folder:
+        run(folder, [], b"put a =1\n")
+        before = contents(folder)
+        done = subprocess.run([PROGRAM], cwd=folder, input=b"scan\n", capture_output=True, timeout=SECONDS, check=False, preexec_fn=limit)
+        wrong = expect("the status", done.returncode, 5) + expect("what was told", done.stdout, b"")
+        wrong += expect("the folder", contents(folder), before)
+        last = done.stderr.decode().splitlines()[-1:]
+        return wrong + expect("the last line", last, ["blob_shell: not every log was looked through: the folder could not be read"])
+
+
 # ---- two processes
 
 
@@ -440,6 +456,7 @@ CASES = {
     "a log whose fragments do not fit each other": early_end(
         frame(b"half", FIRST) + frame(b"whole"), "read up to byte 35 of 47: order of fragments"
     ),
+    "no file can be opened": no_file_can_be_opened,
     "a second process": second_process,
     "the lock of a killed process": lock_of_a_killed_process,
     "files that leave while they are listed": files_leave_while_listed,

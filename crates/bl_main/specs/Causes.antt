@@ -1,4 +1,5 @@
 -- What the failures of the calls below are here.
+use Rattle.std.specs.Prelude.{ℕ, List, codes}
 use Rattle.bl_site.specs.declared.site.SiteErr.{SiteErr}
 use Rattle.bl_site.specs.declared.site.SiteErr.TheVariants as site
 use Rattle.bl_records.specs.declared.error.RecordErr.{RecordErr}
@@ -16,3 +17,8 @@ of_site site.OutOfMemory = OutOfMemory
 abbrev pub of_records : RecordErr → LookErr
 of_records records.Disk = Disk
 of_records records.OutOfMemory = OutOfMemory
+
+-- how it is said
+abbrev pub words_of : LookErr → List ℕ
+words_of Disk = codes "the folder could not be read"
+words_of OutOfMemory = codes "memory ran out"

@@ -6,6 +6,7 @@ ghost use Rattle.bl_main.specs.declared.error.LookErr.TheVariants.{OutOfMemory};
 use bl_records::RecordErr;
 use bl_site::SiteErr;
 use std::alloc::{AllocError, AllocFailed};
+use std::fmt;
 
 /// Why the logs could not be looked through.
 #[derive(Drop)]
@@ -14,6 +15,20 @@ pub enum LookErr {
     Disk,
     /// Memory ran out.
     OutOfMemory,
+}
+
+impl fmt::Display for LookErr {
+    ghost use Rattle.std.specs.Prelude.{Some};
+    ghost use Rattle.bl_main.specs.Causes.{words_of};
+
+    ghost output = { λ error. Some (words_of error) };
+
+    fn fmt<W: fmt::Write>(&self, f: &mut fmt::Formatter<W>) -> fmt::Result {
+        match self {
+            LookErr::Disk => write!(f, "the folder could not be read"),
+            LookErr::OutOfMemory => write!(f, "memory ran out"),
+        }
+    }
 }
 
 impl From<AllocError> for LookErr {

@@ -10,7 +10,7 @@ mod logs;
 use advice::advice;
 use bl_shell::{Status, run};
 use bl_site::Site;
-use bl_site_host::{FolderLock, HostSite, HostSource, Streams};
+use bl_site_host::{FolderLock, HostDoor, HostSite, HostSource, Streams};
 use error::LookErr;
 use logs::{Logs, early_ends, list_logs};
 use std::env;
@@ -52,18 +52,22 @@ fn start(rt: &HostRuntime) -> io::Result<Status> {
             return Ok(Status::DiskFault);
         }
     };
-    let _lock = match FolderLock::take(rt) {
+    let lock = match FolderLock::take(&HostDoor::new(rt.clone()?)) {
         Ok(lock) => lock,
         Err(error) => {
             let _ = eprintln!(rt; "blob_shell: {error}");
             return Ok(Status::DiskFault);
         }
     };
-    serve(rt, words.as_slice())
+    serve(rt, words.as_slice(), &lock)
 }
 
-// Runs the script on the folder, which this process has for itself.
-fn serve(rt: &HostRuntime, words: &[String]) -> io::Result<Status> {
+// Runs the script on the folder, which this process has for itself as long as it keeps the lock.
+fn serve(
+    rt: &HostRuntime,
+    words: &[String],
+    _lock: &FolderLock<HostDoor<HostRuntime>>,
+) -> io::Result<Status> {
     if rt.stdin().is_terminal() {
         let _ = eprintln!(rt; "end with Ctrl-D; `sync` makes writes durable");
     }
@@ -83,7 +87,9 @@ fn serve(rt: &HostRuntime, words: &[String]) -> io::Result<Status> {
         Status::Done => earlier,
         _ => list_logs(rt.alloc(), &mut site),
     };
-    let _ = tell_early_ends(rt, &mut site, logs);
+    if let Err(error) = tell_early_ends(rt, &mut site, logs) {
+        let _ = eprintln!(rt; "blob_shell: not every log was looked through: {error}");
+    }
     Ok(status)
 }
 

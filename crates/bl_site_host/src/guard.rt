@@ -1,5 +1,7 @@
 //! What a program does before it begins: it takes the places of standard streams that are closed, and the folder for itself alone.
-use std::fs::{self, File, TryLockError};
+ghost use Rattle.std.specs.Prelude.{IfOk, OnOk};
+
+use std::fs::{self, File};
 use std::os::fd::AsRawFd;
 use std::rt::Files;
 use std::{fmt, io};
@@ -51,26 +53,45 @@ impl fmt::Display for LockErr {
     }
 }
 
+/// What a process asks of the system before it has the folder.
+pub trait Door {
+    type Folder: Drop;
+
+    /// Whether it is shown what is locked. The clauses hold where it is.
+    ghost shows: { Type 0 };
+
+    /// This process has the lock, as long as it keeps the open folder.
+    ghost locked: { Self.Folder → Type 0 };
+
+    /// Opens the current folder.
+    fn open(&self) -> io::Result<Self::Folder>;
+
+    /// Locks the folder. It does not wait.
+    ///
+    /// Errors: `Held`, `Failed`.
+    fn lock(&self, folder: &mut Self::Folder) -> Result<(), LockErr>
+        ensures { shows → OnOk result (locked folder.new) };
+}
+
 /// The current folder, as one process alone may use it. The lock leaves no file, binds only those that ask for it, and goes with the
 /// process, however it ends.
 #[derive(Drop)]
-pub struct FolderLock {
-    folder: File,
+pub struct FolderLock<D: Door> {
+    pub(crate) folder: D::Folder,
 }
 
-impl FolderLock {
+impl<D: Door> FolderLock<D> {
     /// Locks the current folder. It does not wait.
     ///
     /// Errors: `Held`, `Failed`.
-    pub fn take<R: Files<File = File>>(rt: &R) -> Result<FolderLock, LockErr> {
-        let folder = match fs::open(rt, ".") {
+    pub fn take(door: &D) -> Result<FolderLock<D>, LockErr>
+        ensures { D.shows → IfOk result (λ lock. D.locked lock.folder) }
+    {
+        let mut folder = match door.open() {
             Ok(folder) => folder,
             Err(e) => return Err(LockErr::Failed(e)),
         };
-        match folder.try_lock() {
-            Ok(()) => Ok(FolderLock { folder }),
-            Err(TryLockError::WouldBlock) => Err(LockErr::Held),
-            Err(TryLockError::Error(e)) => Err(LockErr::Failed(e)),
-        }
+        door.lock(&mut folder)?;
+        Ok(FolderLock { folder })
     }
 }

@@ -1,11 +1,12 @@
 //! The calls of the real system, and standard output. This is the trusted edge: it shows nothing.
 ghost use Rattle.std.specs.Prelude.{[], None};
 
+use crate::guard::{Door, LockErr};
 use crate::moving::{read_full, write_whole};
 use crate::output::Output;
 use crate::system::{Found, Listed, System};
 use std::alloc::Global;
-use std::fs::{self, OpenFile, OpenOptions, ReadDir};
+use std::fs::{self, File, OpenFile, OpenOptions, ReadDir, TryLockError};
 use std::io::{self, ErrorKind, Print, Seek, SeekFrom, Write};
 use std::rt::Files;
 
@@ -136,6 +137,39 @@ impl<R: Files + AllocGlobal + Clone + Drop> System for Host<R> {
             },
             Some(Err(e)) if e.kind() == ErrorKind::InvalidFilename => Ok(Listed::Other),
             Some(Err(e)) => Err(e),
+        }
+    }
+}
+
+/// The current folder, before this process has it.
+#[derive(Drop)]
+pub struct HostDoor<R: Files<File = File> + Drop> {
+    rt: R,
+}
+
+impl<R: Files<File = File> + Drop> HostDoor<R> {
+    /// The door of the current folder.
+    pub fn new(rt: R) -> HostDoor<R> {
+        HostDoor { rt }
+    }
+}
+
+impl<R: Files<File = File> + Drop> Door for HostDoor<R> {
+    type Folder = File;
+
+    ghost shows = { ⊥ };
+
+    ghost locked = { λ _. ⊥ };
+
+    fn open(&self) -> io::Result<File> {
+        fs::open(&self.rt, ".")
+    }
+
+    fn lock(&self, folder: &mut File) -> Result<(), LockErr> {
+        match folder.try_lock() {
+            Ok(()) => Ok(()),
+            Err(TryLockError::WouldBlock) => Err(LockErr::Held),
+            Err(TryLockError::Error(e)) => Err(LockErr::Failed(e)),
         }
     }
 }

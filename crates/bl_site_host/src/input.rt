@@ -1,5 +1,6 @@
 //! A reader, as standard input, as a source. It shows no content.
-ghost use Rattle.std.specs.Prelude.{◌≡◌, ◌≤◌, ◌+◌, ◌-◌, ◌^◌, [], min, length, IfOk, IsSome, MatchResult, OnErr};
+ghost use Rattle.std.specs.Prelude.{◌≡◌, ◌≤◌, ◌<◌, ◌+◌, ◌-◌, ◌^◌, [], min, length, take, IfOk, IsSome, MatchResult, OnErr};
+ghost use Rattle.std.specs.Io.KnownBytes.{Consumes, IsAtEnd, Keeps};
 ghost use Rattle.bl_site.specs.Causes.{Rose};
 
 use crate::moving::read_some;
@@ -20,6 +21,7 @@ impl<R: Read + Drop> HostSource<R> {
     pub fn start(reader: R) -> HostSource<R>
         ensures taken { ⟦<HostSource<R> as Source>⟧.taken result ≡ 0 }
         ensures faults { ⟦<HostSource<R> as Source>⟧.faults result ≡ 0 }
+        ensures reader { result.reader ≡ reader }
     {
         HostSource {
             reader,
@@ -49,6 +51,9 @@ impl<R: Read + Drop> Source for HostSource<R> {
     fn read(&mut self, into: &mut [u8]) -> Result<usize, SourceErr>
         ensures last { MatchResult result (λ _. self.new.last ≡ self.old.last) (λ _. IsSome self.new.last) }
         ensures bound { IfOk result (λ count. count ≤ length into.new) }
+        ensures read { IfOk result (λ count. Consumes (R.remaining self.old.reader) (R.remaining self.new.reader) (take count into.new)) }
+        ensures read_all { IfOk result (λ count. count ≡ 0 → 0 < length into.new → IsAtEnd (R.remaining self.new.reader)) }
+        ensures read_none { OnErr result (Keeps (R.remaining self.old.reader) (R.remaining self.new.reader)) }
         ensures taken { IfOk result (λ count. self.new.taken ≡ min (self.old.taken + count) (2 ^ 64 - 1)) }
         ensures later { self.old.faults ≤ self.new.faults }
         ensures failed { OnErr result (Rose self.old.faults self.new.faults) }

@@ -18,7 +18,8 @@ mod site;
 mod system;
 
 pub use failure::Failure;
-pub use guard::{FolderLock, LockErr, Streams};
+pub use guard::{Door, FolderLock, LockErr, Streams};
+pub use host::HostDoor;
 pub use input::HostSource;
 pub use site::HostSite;
 

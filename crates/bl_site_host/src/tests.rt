@@ -1,5 +1,8 @@
 //! The adapters on the real folder, and writers and readers that are short or fail.
+ghost use Rattle.std.specs.Prelude.{IsTrue};
+
 use crate::faults::{Fault, changed, counted, synced};
+use crate::guard::{Door, FolderLock, LockErr};
 use crate::moving::{read_full, write_whole};
 use crate::{HostSite, HostSource};
 use bl_site::{Site, SiteErr, Source, SourceErr};
@@ -127,6 +130,47 @@ fn a_source_gives_what_its_reader_gives(rt: HostRuntime) -> Result<(), Fail> {
     assert_eq!(rt; source.read(&mut into), Ok(1));
     assert_eq!(rt; into[0], 2);
     assert_eq!(rt; source.read(&mut into), Err(SourceErr::Failed));
+    Ok(())
+}
+
+// A folder that another process has locked, or none.
+#[derive(Drop)]
+struct Room {
+    taken: bool,
+}
+
+#[derive(Drop)]
+struct Latch {
+    locked: bool,
+}
+
+impl Door for Room {
+    type Folder = Latch;
+
+    ghost shows = { Unit {0} };
+
+    ghost locked = { λ latch. IsTrue latch.locked };
+
+    fn open(&self) -> io::Result<Latch> {
+        Ok(Latch { locked: false })
+    }
+
+    fn lock(&self, folder: &mut Latch) -> Result<(), LockErr> {
+        if self.taken {
+            return Err(LockErr::Held);
+        }
+        folder.locked = true;
+        Ok(())
+    }
+}
+
+#[test]
+fn a_folder_is_locked_once(rt: HostRuntime) -> Result<(), Fail> {
+    let Ok(lock) = FolderLock::take(&Room { taken: false }) else {
+        return Err(Fail::from("not locked"));
+    };
+    assert!(rt; lock.folder.locked);
+    assert!(rt; matches!(FolderLock::take(&Room { taken: true }), Err(LockErr::Held)));
     Ok(())
 }
 
