@@ -25,6 +25,7 @@ pub(crate) struct Folder<S: System + Drop> {
 impl<S: System + Drop> Folder<S> {
     pub(crate) fn new(alloc: Global, system: S) -> Folder<S>
         ensures system { result.system ≡ system }
+        ensures lost { result.lost ≡ false }
         ensures sound { S.calls system ≡ [] → IsSound S.id (S.calls result.system) result.handles.open.items }
     {
         Folder {

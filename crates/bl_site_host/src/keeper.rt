@@ -1,5 +1,5 @@
 //! The last failure, of a folder's calls and of the output's.
-ghost use Rattle.std.specs.Prelude.{◌≡◌, ◌≢◌, ◌≤◌, ◌∷◌, [], ℕ, List, Option, None, Some, Ok, true, length, take, map, IfOk, IfErr, IfSome, IsErr, IsTrue, OnOk, OnErr};
+ghost use Rattle.std.specs.Prelude.{◌≡◌, ◌≢◌, ◌≤◌, ◌∷◌, [], ℕ, List, Option, None, Some, Ok, true, false, length, take, map, IfOk, IfErr, IfSome, IsErr, IsTrue, OnOk, OnErr};
 ghost use Rattle.std.specs.Option.{option_copied};
 ghost use Rattle.std.specs.String.{string_bytes};
 ghost use Rattle.std.specs.Io.KnownBytes.{Appends};
@@ -79,6 +79,7 @@ impl<S: System + Drop> Keeper<S> {
     pub(crate) fn new(alloc: Global, system: S) -> Keeper<S>
         ensures last { result.failures.last ≡ None }
         ensures system { result.folder.system ≡ system }
+        ensures lost { result.folder.lost ≡ false }
         ensures sound { S.calls system ≡ [] → IsSound S.id (S.calls result.folder.system) result.folder.handles.open.items }
     {
         Keeper {

@@ -1,5 +1,5 @@
 //! The folder and an output as a site.
-ghost use Rattle.std.specs.Prelude.{◌≡◌, ◌≤◌, ◌∷◌, [], ℕ, List, Option, None, Some, Ok, true, length, take, map, IfOk, IfSome, IsErr, IsTrue, OnOk, OnErr};
+ghost use Rattle.std.specs.Prelude.{◌≡◌, ◌≤◌, ◌∷◌, [], ℕ, List, Option, None, Some, Ok, true, false, length, take, map, IfOk, IfSome, IsErr, IsTrue, OnOk, OnErr};
 ghost use Rattle.std.specs.Option.{option_copied};
 ghost use Rattle.std.specs.String.{string_bytes};
 ghost use Rattle.std.specs.Io.KnownBytes.{Appends};
@@ -42,6 +42,8 @@ impl<R: Files + AllocGlobal + Clone + Drop, P: Print + Drop> HostSite<Host<R>, S
         ensures disk_faults { ⟦<HostSite<Host<R>, Standard<P>> as Site>⟧.disk_faults result ≡ 0 }
         ensures tell_faults { ⟦<HostSite<Host<R>, Standard<P>> as Site>⟧.tell_faults result ≡ 0 }
         ensures changes { ⟦<HostSite<Host<R>, Standard<P>> as Site>⟧.changes result ≡ 0 }
+        ensures last { result.keeper.failures.last ≡ None }
+        ensures lost { result.keeper.folder.lost ≡ false }
     {
         HostSite::new(rt.alloc(), Host::new(rt), Standard::new(output))
     }
@@ -54,6 +56,7 @@ impl<S: System + Drop, W: Output + Drop> HostSite<S, W> {
         ensures changes { result.changes ≡ 0 }
         ensures last { result.keeper.failures.last ≡ None }
         ensures system { result.keeper.folder.system ≡ system }
+        ensures lost { result.keeper.folder.lost ≡ false }
         ensures output { result.output ≡ output }
         ensures sound { S.calls system ≡ [] → IsSound S.id (S.calls result.keeper.folder.system) result.keeper.folder.handles.open.items }
     {
