@@ -170,8 +170,7 @@ fn recover_live<S: Site>(
     asked: &Asked,
 ) -> Result<Opened, OpenErr>
     requires files { All HasNumber files.now }
-    requires listed { S.shows → AreListed (folder_of (S.disk site.old)) files.now }
-    requires current { S.shows → IsSome (file (folder_of (S.disk site.old)) Current) }
+    requires listed { S.shows → AreListed (folder_of (S.disk site.old)) files.now × IsSome (file (folder_of (S.disk site.old)) Current) }
     ensures takes { S.shows → IfOk result (TakesOver (folder_of (S.disk site.old)) asked.now) }
     ensures within { IfOk result IsWithin }
     ensures in_place { S.shows → IfOk result (λ o. IsInPlace o (S.disk site.new)) }

@@ -81,7 +81,7 @@ returns-in_err-check_manifest-clause-answers g c = λ shown.
     let folder = folder_of (g.S.Site.disk c.args.site.now) in
     let p = err_from_is_err_and c.from_residual-in_err-check_manifest.result c.from_residual-in_err-check_manifest.ensures.1 in
     let named = c.in_ok-manifest.ensures.named shown in
-    let absent = λ (name : List ℕ) (place : ℕ) (e : p.0 ≡ Corrupt name place). c.in_err-check_manifest.ensures.absent name place (ap Err (sym p.2 ∙ e)) folder (c.requires.listed shown) in
+    let absent = λ (name : List ℕ) (place : ℕ) (e : p.0 ≡ Corrupt name place). c.in_err-check_manifest.ensures.absent name place (ap Err (sym p.2 ∙ e)) folder (c.requires.listed shown).0 in
     due_of c.damage_is_one.ensures.one c.folders_stand_for_one_map.ensures.live c.lacking_folders_are_not_live.ensures.live folder c.args.asked.now p.0 c.from_residual-in_err-check_manifest.result p.1
     (λ tells. missing_refused folder c.args.asked.now c.in_ok-manifest.manifest p.0 named (subst (λ e. (e ≡ OutOfMemory) ⊎ (e ≡ Corrupt (manifest_name c.in_ok-manifest.manifest) 0)) (sym p.2) c.in_err-check_manifest.ensures.causes) absent tells)
     (λ n full. absurd (missing_not_full (manifest_name c.in_ok-manifest.manifest) p.0 n (subst (λ e. (e ≡ OutOfMemory) ⊎ (e ≡ Corrupt (manifest_name c.in_ok-manifest.manifest) 0)) (sym p.2) c.in_err-check_manifest.ensures.causes) full))
@@ -115,13 +115,13 @@ sync_found-requires-clause-there g c = λ shown.
     let disk = g.S.Site.disk c.read_current.new.site in
     let same : folder_of disk ≡ folder_of (g.S.Site.disk c.args.site.now) = ap folder_of (c.read_current.ensures.quiet.stays shown).same in
     some_in disk (manifest_name c.in_ok-manifest.manifest)
-    (subst (λ (f : Folder). IsSome (file f (Manifest c.in_ok-manifest.manifest))) (sym same) (c.in_ok-check_manifest.ensures.there (folder_of (g.S.Site.disk c.args.site.now)) (c.requires.listed shown)))
+    (subst (λ (f : Folder). IsSome (file f (Manifest c.in_ok-manifest.manifest))) (sym same) (c.in_ok-check_manifest.ensures.there (folder_of (g.S.Site.disk c.args.site.now)) (c.requires.listed shown).0))
 
 pub sync_found-requires-clause-logs : goal.sync_found-requires-clause-logs
 sync_found-requires-clause-logs g c = λ shown.
     let disk = g.S.Site.disk c.read_current.new.site in
     let same : folder_of disk ≡ folder_of (g.S.Site.disk c.args.site.now) = ap folder_of (c.read_current.ensures.quiet.stays shown).same in
-    subst (λ (xs : List ℕ). AreTheLogs xs disk) (sym c.deref.ensures.value) (the_logs disk c.in_ok-logs.logs.items (c.in_ok-logs.ensures.logs (folder_of disk) (subst (λ (f : Folder). AreListed f c.args.files.now) (sym same) (c.requires.listed shown))))
+    subst (λ (xs : List ℕ). AreTheLogs xs disk) (sym c.deref.ensures.value) (the_logs disk c.in_ok-logs.logs.items (c.in_ok-logs.ensures.logs (folder_of disk) (subst (λ (f : Folder). AreListed f c.args.files.now) (sym same) (c.requires.listed shown).0)))
 
 pub returns-in_err-sync_found-clause-cuts : goal.returns-in_err-sync_found-clause-cuts
 returns-in_err-sync_found-clause-cuts g c = λ shown settled m stands.
@@ -161,7 +161,7 @@ load-requires-clause-listed g c = λ shown.
     let s1 = c.read_current.new.site in
     let same1 : folder_of (site.disk s1) ≡ folder_of (site.disk s0) = ap folder_of (c.read_current.ensures.quiet.stays shown).same in
     let same2 : folder_of (site.disk c.sync_found.new.site) ≡ folder_of (site.disk s0) = c.in_ok-sync_found.ensures.same shown ∙ same1 in
-    subst (λ (f : Folder). AreListed f c.args.files.now) (sym same2) (c.requires.listed shown)
+    subst (λ (f : Folder). AreListed f c.args.files.now) (sym same2) (c.requires.listed shown).0
 
 pub load-requires-clause-logs : goal.load-requires-clause-logs
 load-requires-clause-logs g c = λ shown.
@@ -172,7 +172,7 @@ load-requires-clause-logs g c = λ shown.
     let same1 : folder_of (site.disk s1) ≡ folder_of (site.disk s0) = ap folder_of (c.read_current.ensures.quiet.stays shown).same in
     let same2 : folder_of (site.disk c.sync_found.new.site) ≡ folder_of (site.disk s0) = c.in_ok-sync_found.ensures.same shown ∙ same1 in
     subst (λ (xs : List ℕ). AreLogs (folder_of (site.disk c.sync_found.new.site)) xs) (sym c.deref-2.ensures.value)
-    (subst (λ (f : Folder). AreLogs f c.in_ok-logs.logs.items) (sym same2) (c.in_ok-logs.ensures.logs (folder_of (site.disk s0)) (c.requires.listed shown)))
+    (subst (λ (f : Folder). AreLogs f c.in_ok-logs.logs.items) (sym same2) (c.in_ok-logs.ensures.logs (folder_of (site.disk s0)) (c.requires.listed shown).0))
 
 pub load-requires-clause-named : goal.load-requires-clause-named
 load-requires-clause-named g c = λ shown.
