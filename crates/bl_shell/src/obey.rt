@@ -20,9 +20,9 @@ use crate::batch::{batch_of, batch_of_del, batch_of_put};
 use crate::scan::tell_pairs;
 use crate::stop::Stop;
 use bl_entry::Batch;
+use bl_logstore::{Store, batches_are_once, cuts_stand, damaged_do_not_stand, stores_stand};
 use bl_script::{Command, Parsed, Refusal, print_refusal, print_value};
 use bl_site::Site;
-use bl_logstore::{Store, batches_are_once, cuts_stand, damaged_do_not_stand, stores_stand};
 use std::alloc::Global;
 
 // A write, and its reply.

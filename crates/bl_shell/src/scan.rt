@@ -10,9 +10,9 @@ ghost use Rattle.bl_shell.specs.Carried.{TellsFront, CutTelling};
 
 use crate::stop::Stop;
 use bl_code::Octets;
+use bl_logstore::Store;
 use bl_script::{Command, append_pair};
 use bl_site::Site;
-use bl_logstore::Store;
 use std::alloc::Global;
 
 // Once so many bytes of lines wait, they are told.

@@ -15,11 +15,11 @@ ghost use Rattle.bl_shell.specs.Telling.{IsStartOf, HasRun, HasTaken, HasBegun, 
 use crate::lines::LineInHand;
 use crate::obey::obey;
 use crate::stop::Stop;
-use bl_site::{Site, Source};
 use bl_logstore::{
     Store, batches_make_the_map, cuts_stand, older_logs_are_synced, stores_stand,
     synced_stores_are_left,
 };
+use bl_site::{Site, Source};
 use memchr::memchr;
 use std::alloc::Global;
 

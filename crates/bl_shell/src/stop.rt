@@ -5,9 +5,9 @@ ghost use Rattle.bl_shell.specs.Causes.{stop_of, stop_of_store};
 ghost use Rattle.bl_shell.specs.declared.stop.Stop.TheVariants.{Read, OutOfMemory};
 
 use bl_code::{CodeErr, Octets};
+use bl_logstore::StoreErr;
 use bl_script::ScriptErr;
 use bl_site::{SiteErr, SourceErr};
-use bl_logstore::StoreErr;
 use std::alloc::{AllocError, AllocFailed};
 
 // Why a run stops, with what the line says that is told of it.

@@ -18,10 +18,10 @@ use crate::serve::serve;
 use crate::status::Status;
 use crate::stop::Stop;
 use bl_code::Octets;
-use bl_site::{Site, SiteErr, Source};
 use bl_logstore::{
     Store, batches_make_the_map, cuts_stand, damaged_do_not_stand, older_logs_are_synced,
 };
+use bl_site::{Site, SiteErr, Source};
 use std::alloc::Global;
 
 // How many bytes of the script are read at once.

@@ -2,8 +2,8 @@
 
 use bl_code::Octets;
 use bl_entry::Batch;
-use bl_site_mem::MemSite;
 use bl_logstore::{Store, StoreErr};
+use bl_site_mem::MemSite;
 use std::alloc::Global;
 use std::test::Fail;
 
