@@ -1,0 +1,2 @@
+//! What readers are told of a version and the memories beside it.
+#![tactic(auto)]
