@@ -1,5 +1,5 @@
 -- What a version gives to readers, with the memories beside it.
-use Rattle.std.specs.Prelude.{◌≡◌, ℕ, ◌<◌, List, [], ◌∷◌, ◌++◌, flat_map, map, Some}
+use Rattle.std.specs.Prelude.{◌≡◌, ℕ, ◌<◌, List, [], ◌∷◌, ◌++◌, flat_map, map, Option, None, Some}
 use Rattle.std.specs.List.{AllByRecursion, IsDistinct}
 use Rattle.bl_site.specs.Disk.{Folder}
 use Rattle.bl_entry.specs.declared.key.Entry.{Entry}
@@ -18,6 +18,11 @@ use Rattle.bl_folder.specs.Holding.{BlobFile, IsSpelled, blob_in}
 pub record View : Type 0 where
   pub version : Listing
   pub memories : List (List Entry)
+
+-- the memory that waits for its flush, where there is one, and the one in use
+abbrev pub memories_of : Option (List Entry) → List Entry → List (List Entry)
+memories_of None in_use = in_use ∷ []
+memories_of (Some waiting) in_use = waiting ∷ in_use ∷ []
 
 -- what the entries of a memory put and delete
 abbrev pub revisions_in : List Entry → List Revision

@@ -1,0 +1,4 @@
+pub mod GivenLemmas
+pub mod TableLemmas
+pub mod ToldLemmas
+pub mod ValueLemmas
