@@ -1,12 +1,12 @@
 -- When a call breaks the store.
-use Rattle.std.proofs.Common.{◌≡◌, inl, inr, ℕ, true, false, arith, sym, ◌∙◌, subst, Result, Ok, Err, OnOk, OnErr, IfErr}
+use Rattle.std.proofs.Common.{◌≡◌, ◌^◌, Bool, inl, inr, ℕ, true, false, arith, sym, ◌∙◌, subst, Result, Ok, Err, OnOk, OnErr, IfErr}
 use Rattle.bl_site.specs.Causes.{Rose}
 use Rattle.bl_site.specs.declared.site.Site.{Ghosts}
 use Rattle.bl_store.specs.Stored.{Stored}
 use Rattle.bl_store.specs.Calls.{Breaks}
-use Rattle.bl_store.specs.Causes.{IsSyncing}
+use Rattle.bl_store.specs.Causes.{IsMaking, IsSyncing}
 use Rattle.bl_store.specs.declared.error.StoreErr.{StoreErr}
-use Rattle.bl_store.specs.declared.error.StoreErr.TheVariants.{Full}
+use Rattle.bl_store.specs.declared.error.StoreErr.TheVariants.{Disk, OutOfMemory, Full}
 
 pub true_false : true ≡ false → ⊥
 true_false e = cc e
@@ -43,3 +43,9 @@ on_ok (Err e) f h = tt
 
 pub rose_then : (a b c : ℕ) → Rose a b → Rose b c → Rose a c
 rose_then a b c first second = omega (arith, first, second)
+
+-- a failure that leaves a call unbroken is that no number is left
+pub unbroken_is_full : (e : StoreErr) (mark broken : Bool) → IsMaking e → (e ≡ Disk → mark ≡ true) → (e ≡ OutOfMemory → mark ≡ true) → (e ≡ Full (10 ^ 15) → broken ≡ false) → mark ≡ false → broken ≡ false
+unbroken_is_full e mark broken (inl is) disk memory full unmarked = absurd (true_false (sym (disk is) ∙ unmarked))
+unbroken_is_full e mark broken (inr (inl is)) disk memory full unmarked = absurd (true_false (sym (memory is) ∙ unmarked))
+unbroken_is_full e mark broken (inr (inr is)) disk memory full unmarked = full is

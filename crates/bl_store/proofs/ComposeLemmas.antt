@@ -1,5 +1,5 @@
 -- One part of a call after another.
-use Rattle.std.proofs.Common.{◌≡◌, ◌⊎◌, inl, inr, ℕ, ◌≤◌, List, length, true, sym, ◌∙◌, subst, arith, Result, Ok, Err, IsErr}
+use Rattle.std.proofs.Common.{◌≡◌, ◌⊎◌, inl, inr, ℕ, ◌≤◌, List, length, Bool, true, false, sym, ◌∙◌, subst, arith, Result, Ok, Err, IsErr}
 use Rattle.bl_site.specs.Causes.{Rose}
 use Rattle.bl_site.specs.Disk.{Disk, Name}
 use Rattle.bl_site.specs.declared.site.Site.{Ghosts}
@@ -62,6 +62,38 @@ leaves_broken names held done (Err e) new after disk is broken l = record { ok =
 
 pub own_broken : {S T : Type 0} (g : Ghosts S) (result : Result T StoreErr) (old new : Stored) (site after : S) → WritesOwn g result old new site after → WritesOwn g result old (record new { broken = true }) site after
 own_broken g result old new site after w = record {
+  tells_nothing = w.tells_nothing;
+  others = w.others;
+  there = λ shown. record { manifest = (w.there shown).manifest; log = (w.there shown).log };
+  certain = w.certain;
+}
+
+-- a part that failed, of which the caller says anew whether it breaks the store: whether it is broken does not matter to how a store stands
+stands_marked : (names : List Name) (held : Held) (store : Stored) (mark : Bool) (disk : Disk) → StandsFor names held store disk → StandsFor names held (record store { broken = mark }) disk
+stands_marked names held store mark disk t = record {
+  steady = t.steady;
+  is_steady = t.is_steady;
+  carries = record {
+    live = t.carries.live;
+    manifest = t.carries.manifest;
+    log = t.carries.log;
+    last = t.carries.last;
+    waiting = t.carries.waiting;
+    memory = t.carries.memory;
+    fit = t.carries.fit;
+    ahead = record { version = t.carries.ahead.version; manifest = t.carries.ahead.manifest; log = t.carries.ahead.log };
+  };
+  writes = t.writes;
+  durable = t.durable;
+  found = t.found;
+}
+
+pub leaves_marked : {T : Type 0} (names : List Name) (held done : Held) (e : StoreErr) (new : Stored) (mark : Bool) (disk : Disk) → (mark ≡ false → new.broken ≡ false) → LeavesStore {T = T} names held done (Err e) new disk
+    → LeavesStore {T = T} names held done (Err e) (record new { broken = mark }) disk
+leaves_marked names held done e new mark disk only l = record { ok = tt; err = λ no_. stands_marked names held new mark disk (l.err (only no_)); settled = l.settled }
+
+pub own_marked : {S T : Type 0} (g : Ghosts S) (result : Result T StoreErr) (old new : Stored) (mark : Bool) (site after : S) → WritesOwn g result old new site after → WritesOwn g result old (record new { broken = mark }) site after
+own_marked g result old new mark site after w = record {
   tells_nothing = w.tells_nothing;
   others = w.others;
   there = λ shown. record { manifest = (w.there shown).manifest; log = (w.there shown).log };

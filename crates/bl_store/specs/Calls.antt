@@ -57,6 +57,14 @@ next_flushed s = from s.waiting
 abbrev pub next_with_room : Stored → ℕ
 next_with_room s = if is_full s then next_flushed s + 1 else s.next
 
+-- and once the memory in use is switched, where it has an entry
+abbrev pub next_switched : Stored → ℕ
+next_switched s = from s.memory
+  where
+    from : List Entry → ℕ
+    from [] = next_flushed s
+    from (e ∷ es) = next_flushed s + 1
+
 -- and once the memory in use is flushed too, where it has an entry
 abbrev pub next_emptied : Stored → ℕ
 next_emptied s = from s.memory
@@ -149,6 +157,14 @@ pub record RefusesWrite {T : Type 0} (operations : List Operation) (old : Stored
   pub fits : OnOk result (old.last + length operations < 2 ^ 56)
 
 -- ---- a flush
+
+-- The memory in use was switched and flushed.
+pub record HasFlushedInUse (old new : Stored) : Type 0 where
+  pub memory : new.memory ≡ []
+  pub waiting : new.waiting ≡ None
+  pub last : new.last ≡ old.last
+  pub next : new.next ≡ next_of old.standing.options [] (old.next + 1) old.memory
+  pub options : new.standing.options ≡ old.standing.options
 
 -- No entry is in memory.
 pub record HasEmptied (old new : Stored) : Type 0 where

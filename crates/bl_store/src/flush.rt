@@ -1,6 +1,6 @@
 //! Flushing: a waiting memory is written into a table and its blob files, and these are installed.
 
-ghost use Rattle.std.specs.Prelude.{◌≡◌, ◌⊎◌, ℕ, ◌+◌, ◌<◌, ◌≤◌, ◌^◌, List, [], false, true, Some, None, Ok, Err, IfOk, IfErr, IsSome, OnOk, OnErr, IsErrOf};
+ghost use Rattle.std.specs.Prelude.{◌≡◌, ◌↔◌, ◌⊎◌, ℕ, ◌+◌, ◌<◌, ◌≤◌, ◌^◌, List, [], false, true, Some, None, Ok, Err, IfOk, IfErr, IsSome, OnOk, OnErr, IsErrOf};
 ghost use Rattle.bl_site.specs.Causes.{Rose};
 ghost use Rattle.bl_site.specs.Calls.{LeavesOnly};
 ghost use Rattle.bl_site.specs.Disk.{Name, folder_of, written_of};
@@ -18,10 +18,10 @@ ghost use Rattle.bl_open.specs.Flushing.{drawn};
 ghost use Rattle.bl_open.specs.Steady.{Maps, Steady, IsSteady, accepted, durable};
 ghost use Rattle.bl_open.specs.SteadyCalls.{Installs, KeepsAllBut, installed};
 ghost use Rattle.bl_open.specs.SteadyCuts.{LeavesMap};
-ghost use Rattle.bl_store.specs.Calls.{Breaks, CutsOfCall, LeavesStore, WritesOwn, next_flushed};
+ghost use Rattle.bl_store.specs.Calls.{Breaks, CutsOfCall, HasEmptied, HasFlushedInUse, LeavesStore, WritesOwn, next_emptied, next_flushed, next_switched};
 ghost use Rattle.bl_store.specs.Causes.{IsMaking, IsSyncing};
 ghost use Rattle.bl_store.specs.Flushing.{HasFlushed, HasMade};
-ghost use Rattle.bl_store.specs.Held.{Held};
+ghost use Rattle.bl_store.specs.Held.{Held, all_durable};
 ghost use Rattle.bl_store.specs.Standing.{IsThere, StandsFor};
 ghost use Rattle.bl_store.specs.Stored.{IsWaiting};
 ghost use Rattle.bl_store.specs.Synced.{AreFilesBelow, as_synced};
@@ -216,5 +216,79 @@ impl Store {
                 Err(error)
             }
         }
+    }
+
+    // Flushes the waiting memory in a call that has asked the folder: want of memory breaks the store.
+    fn flush_asked<S: Site>(&mut self, alloc: Global, site: &mut S) -> Result<(), StoreErr>
+        requires usable { self.old.broken ≡ false }
+        requires there { S.shows → IsThere self.old (S.disk site.old) }
+        ensures flushed { OnOk result (HasFlushed self.old self.new) }
+        ensures full { (n : ℕ) → result ≡ Err (StoreErr.Full n) → (n ≡ 10 ^ 15) × (10 ^ 15 < next_flushed self.old) × (self.new.broken ≡ false) }
+        ensures upwards { self.old.next ≤ self.new.next }
+        ensures usable { OnOk result (self.new.broken ≡ false) }
+        ensures disk_breaks { IsErrOf result StoreErr.Disk → self.new.broken ≡ true }
+        ensures always { IsErrOf result StoreErr.OutOfMemory → (self.new.broken ≡ true) × (Rose (S.changes site.old) (S.changes site.new) ⊎ (S.changes site.new ≡ S.changes site.old)) }
+        ensures stands { S.shows → (names : List Name) (held : Held) → StandsFor names held self.old (S.disk site.old) → LeavesStore names held held result self.new (S.disk site.new) }
+        ensures cuts { S.shows → S.certain site.old → (held : Held) → StandsFor [] held self.old (S.disk site.old) → CutsOfCall S.Site held held site.old site.new }
+        ensures own { WritesOwn S.Site result self.old self.new site.old site.new }
+        ensures causes { IfErr result IsMaking }
+        ensures disk { IsErrOf result StoreErr.Disk → Rose (S.disk_faults site.old) (S.disk_faults site.new) }
+    {
+        match self.flush_waiting(alloc, site) {
+            Ok(()) => Ok(()),
+            Err(error) => {
+                self.broken = breaks(&error, true);
+                Err(error)
+            }
+        }
+    }
+
+    // Switches the memory in use, and flushes it. No memory waits before.
+    fn flush_in_use<S: Site>(&mut self, alloc: Global, site: &mut S) -> Result<(), StoreErr>
+        requires usable { self.old.broken ≡ false }
+        requires none { self.old.waiting ≡ None }
+        requires there { S.shows → IsThere self.old (S.disk site.old) }
+        ensures flushed { OnOk result (HasFlushedInUse self.old self.new) }
+        ensures full { (n : ℕ) → result ≡ Err (StoreErr.Full n) → (n ≡ 10 ^ 15) × ((self.old.next ≡ 10 ^ 15) ⊎ (10 ^ 15 < next_of self.old.standing.options [] (self.old.next + 1) self.old.memory)) }
+        ensures upwards { self.old.next ≤ self.new.next }
+        ensures breaks { Breaks S.Site result self.old self.new site.old site.new }
+        ensures always { IsErrOf result StoreErr.OutOfMemory → self.new.broken ≡ true }
+        ensures stands { S.shows → (names : List Name) (held : Held) → StandsFor names held self.old (S.disk site.old) → LeavesStore names held (all_durable held) result self.new (S.disk site.new) }
+        ensures cuts { S.shows → S.certain site.old → (held : Held) → StandsFor [] held self.old (S.disk site.old) → CutsOfCall S.Site held (all_durable held) site.old site.new }
+        ensures own { WritesOwn S.Site result self.old self.new site.old site.new }
+        ensures causes { IfErr result IsMaking }
+        ensures disk { IsErrOf result StoreErr.Disk → Rose (S.disk_faults site.old) (S.disk_faults site.new) }
+    {
+        self.switch(alloc, site)?;
+        self.flush_asked(alloc, site)
+    }
+
+    /// Flushes what is in memory into tables and blob files: a waiting memory first, and then, once it is switched, the one in use where
+    /// it has an entry. Behind it no entry is in memory, and all writes are durable.
+    ///
+    /// Errors: `Broken` exactly where the store is broken; `Full` with 10^15, where more files are to be made than numbers are left;
+    /// `Disk`; `OutOfMemory`. After `Disk`, and after `OutOfMemory` once the folder was asked, the store is broken. Else it holds what it
+    /// held; a memory may have been flushed or switched by then.
+    pub fn flush<S: Site>(&mut self, alloc: Global, site: &mut S) -> Result<(), StoreErr>
+        requires there { S.shows → IsThere self.old (S.disk site.old) }
+        ensures broken { (result ≡ Err StoreErr.Broken) ↔ (self.old.broken ≡ true) }
+        ensures full { (n : ℕ) → result ≡ Err (StoreErr.Full n) → (n ≡ 10 ^ 15) × ((10 ^ 15 < next_switched self.old) ⊎ (10 ^ 15 < next_emptied self.old)) }
+        ensures emptied { OnOk result (HasEmptied self.old self.new) }
+        ensures breaks { self.old.broken ≡ false → Breaks S.Site result self.old self.new site.old site.new }
+        ensures stays { self.old.broken ≡ true → (self.new ≡ self.old) × (site.new ≡ site.old) }
+        ensures stands { S.shows → self.old.broken ≡ false → (names : List Name) (held : Held) → StandsFor names held self.old (S.disk site.old)
+            → LeavesStore names held (all_durable held) result self.new (S.disk site.new) }
+        ensures cuts { S.shows → S.certain site.old → self.old.broken ≡ false → (held : Held) → StandsFor [] held self.old (S.disk site.old) → CutsOfCall S.Site held (all_durable held) site.old site.new }
+        ensures own { WritesOwn S.Site result self.old self.new site.old site.new }
+        ensures disk { IsErrOf result StoreErr.Disk → Rose (S.disk_faults site.old) (S.disk_faults site.new) }
+    {
+        if self.broken {
+            return Err(StoreErr::Broken);
+        }
+        self.flush_waiting(alloc, site)?;
+        if self.memory.count() == 0 {
+            return self.sync_log(site);
+        }
+        self.flush_in_use(alloc, site)
     }
 }
