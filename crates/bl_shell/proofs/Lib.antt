@@ -4,6 +4,7 @@ mod CrashLemmas
 mod CutLemmas
 mod EndLemmas
 mod HistoryLemmas
+mod InsideLemmas
 mod LeaveLemmas
 mod LawLemmas
 mod LimitLemmas

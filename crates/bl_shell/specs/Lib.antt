@@ -4,4 +4,6 @@ pub mod Carried
 pub mod Telling
 pub mod Cuts
 pub mod Causes
+pub mod Headline
+pub mod Inside
 pub mod Laws

@@ -5,9 +5,10 @@ ghost use Rattle.bl_site.specs.Disk.{Name, Folder, folder_of};
 ghost use Rattle.bl_site.specs.Calls.{LeavesOnly};
 ghost use Rattle.bl_site.specs.Causes.{Rose};
 ghost use Rattle.bl_logstore.specs.Stored.{KeepsOthers};
-ghost use Rattle.bl_shell.specs.Causes.{IsNotOfScript, IsReading, IsSilent, TookOver};
+ghost use Rattle.bl_shell.specs.Causes.{IsNotOfScript, IsReading, IsSilent};
 ghost use Rattle.bl_shell.specs.Carried.{Carried, StandsAtStart, Finished, Steady, NoLineEnd};
 ghost use Rattle.bl_shell.specs.Cuts.{IsKept, Stops};
+ghost use Rattle.bl_shell.specs.Inside.{HasRunCauses};
 ghost use Rattle.bl_shell.specs.Machine.{orders, Start};
 ghost use Rattle.bl_shell.specs.Synced.{CutOf};
 ghost use Rattle.bl_shell.specs.Telling.{IsStartOf, HasRun, HasTaken, HasBegun, HasFaltered};
@@ -236,13 +237,9 @@ pub(crate) fn serve<R: Source, S: Site>(
         → LeavesOnly S.clock S.left_since site.old site.new (CutOf began (orders (R.left script.old)) (S.told site.old)) }
     ensures corrupt { S.shows → (name : Name) (place : ℕ) → result ≡ Err (Stop.Corrupt name place) → ⊥ }
     ensures ended { R.shows → OnOk result (R.left script.new ≡ []) }
-    ensures read { IsErrOf result Stop.Read → Rose (R.faults script.old) (R.faults script.new) }
-    ensures long { IsErrOf result Stop.Long → TookOver (2 ^ 40) (R.taken script.old) (R.taken script.new) }
+    ensures causes { HasRunCauses S.Site R.Source result script.old script.new site.old site.new }
     ensures bound { R.taken script.new ≤ R.taken script.old + 2 ^ 40 + length buffer.old }
-    ensures disk { IsErrOf result Stop.Disk → Rose (S.disk_faults site.old) (S.disk_faults site.new) }
-    ensures tell { IsErrOf result Stop.Tell → Rose (S.tell_faults site.old) (S.tell_faults site.new) }
     ensures others { S.shows → KeepsOthers (S.disk site.old) (S.disk site.new) }
-    ensures later { S.tell_faults site.old ≤ S.tell_faults site.new }
 {
     cuts_stand();
     stores_stand();

@@ -1,18 +1,14 @@
 //! The top call.
 
-ghost use Rattle.std.specs.Prelude.{◌≡◌, ◌≢◌, ℕ, ◌+◌, ◌-◌, ◌<◌, ◌≤◌, ◌^◌, ◌↔◌, ◌⊎◌, List, [], ◌++◌, length, IfOk, IfErr, IsSome, OnOk, OnErr, IsErrOf, IsErr, Err, string_bytes};
-ghost use Rattle.bl_site.specs.Disk.{Name, folder_of};
+ghost use Rattle.std.specs.Prelude.{◌≡◌, ℕ, ◌+◌, ◌<◌, ◌≤◌, ◌^◌, ◌↔◌, ◌⊎◌, [], ◌++◌, length, IfOk, IfErr, OnOk, string_bytes};
+ghost use Rattle.bl_site.specs.Disk.{Name};
 ghost use Rattle.bl_site.specs.Calls.{LeavesOnly, Tells};
 ghost use Rattle.bl_site.specs.Causes.{Rose};
-ghost use Rattle.bl_wal.specs.LogFile.{log_name};
-ghost use Rattle.bl_logstore.specs.Cuts.{AreWhole};
-ghost use Rattle.bl_logstore.specs.Damage.{IsDamaged};
-ghost use Rattle.bl_logstore.specs.Stored.{KeepsOthers, HasNextLog};
-ghost use Rattle.bl_shell.specs.Causes.{IsNotOfScript, IsOpening, IsReading, IsOfDamaged, IsSilent, TookOver, status_of, MayEnd, EndsAs};
-ghost use Rattle.bl_shell.specs.Carried.{TellsFront};
-ghost use Rattle.bl_shell.specs.Cuts.{CutInRun, CutOfRun, CutPast, CutStands, FromSomeMoment, StopsBeforeScript, HasStopped, IsKept, IsPastOpening, StopsRun, TellsError, as_it_reads};
-ghost use Rattle.bl_shell.specs.Machine.{orders};
-ghost use Rattle.bl_shell.specs.Telling.{HasRun, HasTaken, HasBegun, HasFaltered, HasEnded, corrupt_line, full_line};
+ghost use Rattle.bl_shell.specs.Causes.{IsSilent, status_of, MayEnd, EndsAs};
+ghost use Rattle.bl_shell.specs.Cuts.{TellsError};
+ghost use Rattle.bl_shell.specs.Headline.{AnswersAsMap, HasCauses, Refuses, SurvivesCuts, run_of};
+ghost use Rattle.bl_shell.specs.Inside.{HasRunCauses, RefusesBefore, ServesAsMap, StandsCuts};
+ghost use Rattle.bl_shell.specs.Telling.{corrupt_line, full_line};
 
 use crate::serve::serve;
 use crate::status::Status;
@@ -37,34 +33,12 @@ fn buffer_of(alloc: Global, size: usize) -> Result<Vec<u8>, Stop>
 
 // Opens the folder, and serves the script on it.
 fn run_on<R: Source, S: Site>(alloc: Global, script: &mut R, site: &mut S) -> Result<(), Stop>
-    ensures done { S.shows → R.shows → OnOk result (HasRun (folder_of (S.disk site.old)) (folder_of (S.disk site.new)) (R.left script.old) (S.told site.old) (S.told site.new)) }
+    ensures serves { S.shows → R.shows → ServesAsMap (run_of S.Site R.Source script.old script.new site.old site.new) result }
+    ensures stands { S.shows → R.shows → StandsCuts (run_of S.Site R.Source script.old script.new site.old site.new) result }
+    ensures refuses { S.shows → RefusesBefore (run_of S.Site R.Source script.old script.new site.old site.new) result }
     ensures ended { R.shows → OnOk result (R.left script.new ≡ []) }
-    ensures taken { S.shows → R.shows → IfErr result (λ e. IsReading e → (taken : List ℕ) × (taken ++ R.left script.new ≡ R.left script.old) × (e ≡ Stop.Long → 2 ^ 40 < length taken)
-        × HasTaken (folder_of (S.disk site.old)) (folder_of (S.disk site.new)) taken (S.told site.old) (S.told site.new)) }
-    ensures front { S.shows → R.shows → IfErr result (λ e. IsSilent e → (S.told site.new ≡ S.told site.old) ⊎ HasBegun (folder_of (S.disk site.old)) (R.left script.old) (S.told site.old) (S.told site.new)) }
-    ensures faltered { S.shows → R.shows → IsErrOf result Stop.Tell → HasFaltered (folder_of (S.disk site.old)) (folder_of (S.disk site.new)) (R.left script.old) (S.told site.old) (S.told site.new) }
-    ensures full { S.shows → R.shows → (limit : ℕ) → result ≡ Err (Stop.Full limit)
-        → StopsRun (S.may_be site.old) (folder_of (S.disk site.old)) (folder_of (S.disk site.new)) (R.left script.old) (S.told site.old) (S.told site.new) limit (LeavesOnly S.clock S.left_since site.old site.new) }
-    ensures kept { S.shows → R.shows → OnOk result (IsKept (S.certain site.new) (S.may_be site.new) (S.disk site.new) (S.told site.new) (folder_of (S.disk site.old)) (R.left script.old)) }
-    ensures cuts { S.shows → R.shows → LeavesOnly S.clock S.left_since site.old site.new (CutInRun (S.may_be site.old) (folder_of (S.disk site.old)) (orders (R.left script.old)) (S.told site.old)) }
-    ensures past { S.shows → R.shows → (IsErr result × IfErr result (StopsBeforeScript (folder_of (S.disk site.old)) (S.disk site.new)) × (script.new ≡ script.old))
-        ⊎ FromSomeMoment S.clock S.left_since site.old site.new (CutPast (folder_of (S.disk site.old)) (orders (R.left script.old)) (S.told site.old)) }
-    ensures made { S.shows → R.shows → HasNextLog (folder_of (S.disk site.old)) (S.disk site.new) → S.certain site.new
-        → FromSomeMoment S.clock S.left_since site.old site.new (CutPast (folder_of (S.disk site.old)) (orders (R.left script.old)) (S.told site.old)) }
-    ensures whole { S.shows → R.shows → HasNextLog (folder_of (S.disk site.old)) (S.disk site.new) → AreWhole (S.disk site.new) }
-    ensures behind { S.shows → R.shows → S.certain site.old → LeavesOnly S.clock S.left_since site.old site.new
-        (λ c. HasNextLog (folder_of (S.disk site.old)) c.written → CutPast (folder_of (S.disk site.old)) (orders (R.left script.old)) (S.told site.old) c) }
-    ensures others { S.shows → KeepsOthers (S.disk site.old) (S.disk site.new) }
-    ensures corrupt { S.shows → (name : Name) (place : ℕ) → result ≡ Err (Stop.Corrupt name place) → IsDamaged (folder_of (S.disk site.old)) name place
-        × (S.told site.new ≡ S.told site.old) × (folder_of (S.disk site.new) ≡ folder_of (S.disk site.old)) }
-    ensures damaged { S.shows → (name : Name) (place : ℕ) → IsDamaged (folder_of (S.disk site.old)) name place → IsErr result × IfErr result IsOpening }
-    ensures limit { S.shows → IsSome (folder_of (S.disk site.old) (log_name (10 ^ 15 - 1))) → IsErr result × IfErr result (λ e. IsOpening e ⊎ (e ≡ Stop.Full (10 ^ 15))) }
-    ensures read { IsErrOf result Stop.Read → Rose (R.faults script.old) (R.faults script.new) }
-    ensures long { IsErrOf result Stop.Long → TookOver (2 ^ 40) (R.taken script.old) (R.taken script.new) }
+    ensures causes { HasRunCauses S.Site R.Source result script.old script.new site.old site.new }
     ensures bound { R.taken script.new ≤ R.taken script.old + 2 ^ 40 + 32768 }
-    ensures disk { IsErrOf result Stop.Disk → Rose (S.disk_faults site.old) (S.disk_faults site.new) }
-    ensures tell { IsErrOf result Stop.Tell → Rose (S.tell_faults site.old) (S.tell_faults site.new) }
-    ensures later { S.tell_faults site.old ≤ S.tell_faults site.new }
 {
     damaged_do_not_stand();
     batches_make_the_map();
@@ -162,79 +136,20 @@ pub fn run<R: Source, S: Site>(
     script: &mut R,
     site: &mut S,
 ) -> Status
-    // At `Done` the replies to the whole script are told, and the folder left stands for the last map.
-    ensures done { S.shows → R.shows → result ≡ Status.Done → HasRun (folder_of (S.disk site.old)) (folder_of (S.disk site.new)) (R.left script.old) (S.told site.old) (S.told site.new) }
+    // Without a power cut, with one, and what is refused: specs/Headline.antt says it field by field.
+    ensures answers { S.shows → R.shows → AnswersAsMap (run_of S.Site R.Source script.old script.new site.old site.new) result }
+    ensures survives { S.shows → R.shows → SurvivesCuts (run_of S.Site R.Source script.old script.new site.old site.new) result }
+    ensures refuses { S.shows → Refuses (run_of S.Site R.Source script.old script.new site.old site.new) result }
+
+    // At `Done` the script was read to its end.
     ensures ended { R.shows → result ≡ Status.Done → R.left script.new ≡ [] }
-
-    // At `ReadFault` and `Long` the replies to all whole lines among the bytes taken are told, none of which passes a limit, and
-    // the folder left stands for the map after them.
-    ensures taken { S.shows → R.shows → (result ≡ Status.ReadFault) ⊎ (result ≡ Status.Long) → (taken : List ℕ) × (taken ++ R.left script.new ≡ R.left script.old) × (result ≡ Status.Long → 2 ^ 40 < length taken)
-        × HasTaken (folder_of (S.disk site.old)) (folder_of (S.disk site.new)) taken (S.told site.old) (S.told site.new) }
-
-    // At `Full` those to the lines before the one in hand, and the line that says which limit it is the first to pass. The
-    // folder left stands for the map after the lines before it, and no cut
-    // holds what that line would write.
-    ensures full { S.shows → R.shows → result ≡ Status.Full
-        → HasStopped (S.may_be site.old) (folder_of (S.disk site.old)) (folder_of (S.disk site.new)) (R.left script.old) (S.told site.old) (S.told site.new) (LeavesOnly S.clock S.left_since site.old site.new) }
-
-    // At `Corrupt` the folder's first fault is told, and it reads as it did.
-    ensures corrupt { S.shows → result ≡ Status.Corrupt → (name : Name) × ((place : ℕ) × IsDamaged (folder_of (S.disk site.old)) name place × (S.told site.new ≡ S.told site.old ++ corrupt_line name place)) }
-    ensures same { S.shows → result ≡ Status.Corrupt → folder_of (S.disk site.new) ≡ folder_of (S.disk site.old) }
-
-    // At `TellFault`, `DiskFault` and `OutOfMemory` nothing is told, or a front of the replies, in which no whole reply is to a
-    // line that passes a limit; at `TellFault` perhaps the replies and a front of a last line.
-    ensures front { S.shows → R.shows → (result ≡ Status.TellFault) ⊎ (result ≡ Status.DiskFault) ⊎ (result ≡ Status.OutOfMemory)
-        → (S.told site.new ≡ S.told site.old) ⊎ HasBegun (folder_of (S.disk site.old)) (R.left script.old) (S.told site.old) (S.told site.new)
-        ⊎ ((result ≡ Status.TellFault) × HasEnded (folder_of (S.disk site.old)) (folder_of (S.disk site.new)) (R.left script.old) (S.told site.old) (S.told site.new)) }
-
-    // At `TellFault` the folder left stands for the map after all lines obeyed: those whose replies are told, and the one whose
-    // reply could not be told whole; or a line that ends the run could not be told.
-    ensures faltered { S.shows → R.shows → result ≡ Status.TellFault → HasFaltered (folder_of (S.disk site.old)) (folder_of (S.disk site.new)) (R.left script.old) (S.told site.old) (S.told site.new)
-        ⊎ HasEnded (folder_of (S.disk site.old)) (folder_of (S.disk site.new)) (R.left script.old) (S.told site.old) (S.told site.new) }
-
-    // A power cut at any moment of the run, whatever it answers: before the opening's barrier a cut leaves what one before the
-    // run might have left. Behind it, unless a torn
-    // fragment's checksum matches by chance, the folder left stands for the map after a prefix of the writes that holds each one
-    // acknowledged as synced, and none that passes the limit.
-    ensures cuts { S.shows → R.shows → LeavesOnly S.clock S.left_since site.old site.new (CutOfRun (S.may_be site.old) (folder_of (S.disk site.old)) (orders (R.left script.old)) (S.told site.old)) }
-
-    // The barrier is over once the next log is made, before the script is read: where no name call was in doubt as the run
-    // began, a cut that finds this log is one behind it.
-    ensures behind { S.shows → R.shows → S.certain site.old → LeavesOnly S.clock S.left_since site.old site.new
-        (λ c. HasNextLog (folder_of (S.disk site.old)) c.written → CutStands (folder_of (S.disk site.old)) (orders (R.left script.old)) (S.told site.old) c) }
-
-    // So it is from some moment on, whatever was in doubt as the run began, once a byte of the script was taken or the status is
-    // one of a run that read it, and where the next log is there and no name
-    // call is in doubt.
-    ensures past { S.shows → R.shows → IsPastOpening result (R.left script.old) (R.left script.new) ⊎ (HasNextLog (folder_of (S.disk site.old)) (S.disk site.new) × S.certain site.new)
-        → FromSomeMoment S.clock S.left_since site.old site.new (CutStands (folder_of (S.disk site.old)) (orders (R.left script.old)) (S.told site.old)) }
-
-    // Then, and also where the next log is there and a name call is in doubt: wherever a log has data, no log of a lower number
-    // has an unsynced byte.
-    ensures whole { S.shows → R.shows → IsPastOpening result (R.left script.old) (R.left script.new) ⊎ HasNextLog (folder_of (S.disk site.old)) (S.disk site.new) → AreWhole (S.disk site.new) }
-
-    // The folder as it reads is one that such a cut leaves.
-    ensures reads { S.shows → R.shows → S.left_since site.new (S.clock site.old) (as_it_reads (S.disk site.new) (S.told site.new)) }
-
-    // From `Done` on every cut leaves the last map.
-    ensures kept { S.shows → R.shows → result ≡ Status.Done → IsKept (S.certain site.new) (S.may_be site.new) (S.disk site.new) (S.told site.new) (folder_of (S.disk site.old)) (R.left script.old) }
-
-    // Whatever it answers, every name that is no log's stands for the file that it stood for.
-    ensures others { S.shows → KeepsOthers (S.disk site.old) (S.disk site.new) }
-
-    // A fault in the folder ends the run before its first line, and so does a log of the greatest number.
-    ensures damaged { S.shows → (name : Name) (place : ℕ) → IsDamaged (folder_of (S.disk site.old)) name place → (result ≡ Status.Words) ⊎ IsOfDamaged result }
-    ensures limit { S.shows → IsSome (folder_of (S.disk site.old) (log_name (10 ^ 15 - 1))) → (result ≡ Status.Words) ⊎ (result ≡ Status.Full) ⊎ IsOfDamaged result }
 
     // Words are refused, and nothing else is done.
     ensures words { (result ≡ Status.Words) ↔ (0 < length words.now) }
     ensures untouched { result ≡ Status.Words → (script.new ≡ script.old) × (site.new ≡ site.old) }
 
-    // Each failure has its cause in this call.
-    ensures read { result ≡ Status.ReadFault → Rose (R.faults script.old) (R.faults script.new) }
-    ensures tell { result ≡ Status.TellFault → Rose (S.tell_faults site.old) (S.tell_faults site.new) }
-    ensures disk { result ≡ Status.DiskFault → Rose (S.disk_faults site.old) (S.disk_faults site.new) }
-    ensures long { result ≡ Status.Long → TookOver (2 ^ 40) (R.taken script.old) (R.taken script.new) }
+    // Each failure but want of memory has its cause in this call, on every site and source.
+    ensures causes { HasCauses S.Site R.Source result script.old script.new site.old site.new }
     ensures bound { R.taken script.new ≤ R.taken script.old + 2 ^ 40 + 32768 }
 {
     if !words.is_empty() {
