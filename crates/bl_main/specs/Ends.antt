@@ -52,3 +52,7 @@ pub data TellsEach (folder : Folder) : List Name → List EarlyEnd → Type 0 wh
   none : TellsEach folder [] []
   passed : {name : Name} {names : List Name} {ends : List EarlyEnd} → Tells name (folder name) None → TellsEach folder names ends → TellsEach folder (name ∷ names) ends
   told : {name : Name} {names : List Name} {end : EarlyEnd} {ends : List EarlyEnd} → Tells name (folder name) (Some end) → TellsEach folder names ends → TellsEach folder (name ∷ names) (end ∷ ends)
+
+-- a line of standard error
+abbrev pub line_of : List ℕ → List ℕ
+line_of text = codes "blob_shell: " ++ (text ++ codes "\n")

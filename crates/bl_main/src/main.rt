@@ -1,14 +1,12 @@
 //! `blob_shell`: a script on standard input, its replies on standard output, and the store in the current folder.
 #![tactic(auto)]
 
-ghost use Rattle.std.specs.Prelude.{◌≡◌};
-
 mod advice;
 mod error;
 mod logs;
+mod telling;
 
-use advice::advice;
-use bl_shell::{Status, run};
+use bl_shell::Status;
 use bl_site::Site;
 use bl_site_host::{FolderLock, HostDoor, HostSite, HostSource, Streams};
 use error::LookErr;
@@ -16,25 +14,22 @@ use logs::{Logs, early_ends, list_logs};
 use std::env;
 use std::io::{self, IsTerminal};
 use std::process::ExitCode;
+use telling::{obey, tell_advice};
 
 fn main(rt: HostRuntime) -> ExitCode {
     let status = match start(&rt) {
         Ok(status) => status,
-        // A word that is no UTF-8 is a word too.
-        Err(error) if error.kind() == io::ErrorKind::InvalidData => told(&rt, Status::Words),
-        Err(_) => told(&rt, Status::OutOfMemory),
+        Err(error) => {
+            let status = match error.kind() {
+                // A word that is no UTF-8 is a word too.
+                io::ErrorKind::InvalidData => Status::Words,
+                _ => Status::OutOfMemory,
+            };
+            let _ = tell_advice(&mut io::writer(&rt.stderr()), status);
+            status
+        }
     };
     ExitCode::from(status.number())
-}
-
-// Says on standard error what the user can do.
-fn told(rt: &HostRuntime, status: Status) -> Status
-    ensures { result ≡ status }
-{
-    if let Some(text) = advice(status) {
-        let _ = eprintln!(rt; "blob_shell: {text}");
-    }
-    status
 }
 
 fn start(rt: &HostRuntime) -> io::Result<Status> {
@@ -43,16 +38,18 @@ fn start(rt: &HostRuntime) -> io::Result<Status> {
         words.push(word)?;
     }
     if !words.is_empty() {
-        return Ok(told(rt, Status::Words));
+        let _ = tell_advice(&mut io::writer(&rt.stderr()), Status::Words);
+        return Ok(Status::Words);
     }
-    let _streams = match Streams::guard(rt) {
+    let mut door = HostDoor::new(rt.clone()?);
+    let _streams = match Streams::guard(&mut door) {
         Ok(streams) => streams,
         Err(error) => {
             let _ = eprintln!(rt; "blob_shell: the folder cannot be opened: {error}");
             return Ok(Status::DiskFault);
         }
     };
-    let lock = match FolderLock::take(&HostDoor::new(rt.clone()?)) {
+    let lock = match FolderLock::take(&mut door) {
         Ok(lock) => lock,
         Err(error) => {
             let _ = eprintln!(rt; "blob_shell: {error}");
@@ -73,15 +70,14 @@ fn serve(
     }
     let mut script = HostSource::start(rt.stdin());
     let mut site = HostSite::start(rt.clone()?, rt.stdout());
-    let earlier = list_logs(rt.alloc(), &mut site);
-    let status = run(rt.alloc(), words, &mut script, &mut site);
+    let (status, earlier) = obey(rt.alloc(), words, &mut script, &mut site);
     if let Some(failure) = site.last_failure() {
         let _ = eprintln!(rt; "blob_shell: {failure}");
     }
     if let Some(error) = script.last_failure() {
         let _ = eprintln!(rt; "blob_shell: read standard input: {error}");
     }
-    let status = told(rt, status);
+    let _ = tell_advice(&mut io::writer(&rt.stderr()), status);
     // A log that this run made is as it was written, where the run ended well: it is not read again.
     let logs = match status {
         Status::Done => earlier,

@@ -1,5 +1,5 @@
 -- The last failure, by what a call of the site answers.
-use Rattle.std.proofs.Common.{◌≡◌, ◌≢◌, ℕ, Option, Result, Ok, Err, IsErr, IfErr, refl, sym, subst}
+use Rattle.std.proofs.Common.{◌≡◌, ◌≢◌, ℕ, Option, Result, Ok, Err, IsErr, IsErrOf, IfErr, refl, sym, subst}
 use Rattle.bl_site.specs.Disk.{Name}
 use Rattle.bl_site.specs.declared.site.SiteErr.{SiteErr}
 use Rattle.bl_site.specs.declared.site.SiteErr.TheVariants.{DiskFailed, TellFailed, OutOfMemory}
@@ -26,3 +26,9 @@ module _ {T : Type 0} (asked : Asked) (name : Name) (old new : Option Failure) w
   last_told (Ok x) err disk kept = cc err
   last_told (Err Memory) err disk kept = absurd (disk refl)
   last_told (Err (Disk e)) err disk kept = (kept.0, kept.1, kept.2)
+
+-- what is so wherever the system failed is so at `DiskFailed`
+pub stops_of : {T : Type 0} (P : Type 0) (done : Result T Fault) (result : Result T SiteErr) (before now : ℕ) → IsCounted before now done result → IfErr done (λ fault. fault ≢ Memory → P) → IsErrOf result DiskFailed → P
+stops_of P (Ok x) result before now counted fails disk = let is = counted.0 in cc
+stops_of P (Err Memory) result before now counted fails disk = let is = counted.0 in cc
+stops_of P (Err (Disk e)) result before now counted fails disk = fails (λ is. cc)

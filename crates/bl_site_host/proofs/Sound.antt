@@ -1,9 +1,10 @@
 -- What each call leaves sound.
-use Rattle.std.proofs.Common.{◌≡◌, ◌≢◌, ℕ, ◌+◌, ◌<◌, List, ◌∷◌, ◌++◌, length, take, drop, set, All, slice_index_or, Option, None, Some, IfSome, Bool, true, Result, Ok, Err, is_ok, IsErr, OnOk, MatchResult, sym, subst, refl, inl, inr}
+use Rattle.std.proofs.Common.{◌≡◌, ◌≢◌, ℕ, ◌+◌, ◌<◌, ◌≤◌, arith, List, ◌∷◌, ◌++◌, length, take, drop, set, All, slice_index_or, Option, None, Some, IfSome, Bool, true, Result, Ok, Err, is_ok, IsErr, OnOk, MatchResult, sym, subst, refl, inl, inr}
 use Rattle.std.proofs.lemmas.List.Elements.{All-append, All-take, All-drop, All-set}
 use Rattle.std.specs.String.{string_bytes}
 use Rattle.bl_site.specs.Disk.{Name}
-use Rattle.bl_site_host.specs.Events.{Event, Looked, Listing, Opened, Made, Read, Wrote, SyncedFile, SyncedFolder, Renamed, Removed, SawNoOther, StandsUnder, IsOn}
+use Rattle.bl_site_host.specs.Events.{Event, Looked, Listing, ListingBroke, Opened, Made, Read, Wrote, SyncedFile, SyncedFolder, Renamed, Removed, SawNoOther, StandsUnder, IsOn}
+use Rattle.bl_site_host.specs.Stops.{GoesThrough}
 use Rattle.bl_site_host.specs.Handles.{AllStand, IsSound, IsPlaceOf}
 use Rattle.std.specs.declared.io.Error.{Error}
 use Rattle.bl_site_host.specs.declared.faults.Fault.{Fault}
@@ -21,6 +22,7 @@ IsPlain _ = Unit {0}
 plain : {F : Type 0} (id : F → ℕ) (was : List Event) (call : Event) (handles : List (Handle F)) → IsPlain call → IsSound id was handles → IsSound id (call ∷ was) handles
 plain id was (Looked _ _) handles p h = record { careful = h.careful; stand = h.stand }
 plain id was (Listing _) handles p h = record { careful = h.careful; stand = h.stand }
+plain id was ListingBroke handles p h = record { careful = h.careful; stand = h.stand }
 plain id was (Opened _ _) handles p h = absurd p
 plain id was (Made _ _) handles p h = absurd p
 plain id was (Read _ _ _ _) handles p h = record { careful = h.careful; stand = h.stand }
@@ -32,6 +34,11 @@ plain id was (Removed _ _) handles p h = absurd p
 
 pub sound_plain : {F : Type 0} (id : F → ℕ) (was now : List Event) (call : Event) (handles : List (Handle F)) → IsPlain call → now ≡ call ∷ was → IsSound id was handles → IsSound id now handles
 sound_plain id was now call handles p is h = subst (λ calls. IsSound id calls handles) (sym is) (plain id was call handles p h)
+
+-- a list that is gone through leaves what is sound
+pub sound_through : {F : Type 0} (id : F → ℕ) (was now : List Event) (handles : List (Handle F)) → GoesThrough was now → IsSound id was handles → IsSound id now handles
+sound_through id was now handles (inl is) h = subst (λ calls. IsSound id calls handles) (sym is) h
+sound_through id was now handles (inr is) h = sound_plain id was now ListingBroke handles tt is h
 
 opened_stands : (name under : Name) (opened : Option ℕ) (file : ℕ) (was : List Event) → StandsUnder under file was → StandsUnder under file (Opened name opened ∷ was)
 opened_stands name under None file was h = h
@@ -98,9 +105,19 @@ stands_at id name calls handles at handle place is h =
 pub at_some : {X : Type 0} (P : X → Type 0) (found : Option X) (x : X) → found ≡ Some x → IfSome found P → P x
 at_some P found x is h = subst (λ o. IfSome o P) is h
 
+-- one call more
+pub more : (was now older : List Event) (call : Event) → now ≡ call ∷ older → length was ≤ length older → length was < length now
+more was now older call is grows = subst (λ (calls : List Event). length was < length calls) (sym is) (omega (arith, grows))
+
 -- the newest call, which did not fail, was on a file that stands under the name
-pub is_on : (name : Name) (call : ℕ → Bool → Event) (file : ℕ) (ok : Bool) (now older : List Event) → now ≡ call file ok ∷ older → StandsUnder name file older → ok ≡ true → IsOn name (λ f. call f true) now
-is_on name call file ok now older is stands good = record { file = file; older = older; newest = subst (λ b. now ≡ call file b ∷ older) good is; stands = stands }
+pub is_on : (name : Name) (call : ℕ → Bool → Event) (file : ℕ) (ok : Bool) (was now older : List Event) → now ≡ call file ok ∷ older → length was ≤ length older → StandsUnder name file older → ok ≡ true → IsOn name (λ f. call f true) was now
+is_on name call file ok was now older is grows stands good = record {
+  file = file;
+  older = older;
+  newest = subst (λ b. now ≡ call file b ∷ older) good is;
+  since = more was now older (call file ok) is grows;
+  stands = stands;
+}
 
 -- what holds where the system did not fail holds where the call was answered Ok
 pub on_changed : {T : Type 0} (done : Result T Error) (result : Result T Fault) (P : Type 0) → MatchResult done (λ v. result ≡ Ok v) (λ e. result ≡ Err (Disk e)) → (is_ok done ≡ true → P) → OnOk result P

@@ -1,5 +1,5 @@
 -- What a folder asks of the system, call by call, and what is so of these calls.
-use Rattle.std.specs.Prelude.{◌≡◌, ◌≢◌, ◌⊎◌, ℕ, Bool, true, false, IsTrue, List, [], ◌∷◌, Option, None, Some, Result, Ok, Err}
+use Rattle.std.specs.Prelude.{◌≡◌, ◌≢◌, ◌<◌, ◌⊎◌, ℕ, Bool, true, false, IsTrue, List, [], ◌∷◌, length, Option, None, Some, Result, Ok, Err}
 use Rattle.std.specs.String.{string_bytes}
 use Rattle.bl_site.specs.Disk.{Name}
 use Rattle.bl_site_host.specs.declared.system.Found.{Found}
@@ -12,6 +12,8 @@ pub data Event : Type 0 where
   Looked : Name → Option Found → Event
   -- the entries of the folder, with the names of those that are regular files
   Listing : Option (List (Option Name)) → Event
+  -- the list could not be gone through to its end
+  ListingBroke : Event
   Opened : Name → Option ℕ → Event
   Made : Name → Option ℕ → Event
   -- from which offset, how many bytes at most, and which bytes
@@ -60,15 +62,20 @@ SomeSyncFailed (_ ∷ older) = SomeSyncFailed older
 abbrev pub StaysMarked : (was : List Event) → (lost : Bool) → (now : List Event) → (loses : Bool) → Type 0
 StaysMarked was lost now loses = (SomeSyncFailed was → IsTrue lost) → SomeSyncFailed now → IsTrue loses
 
--- the newest call was this one
-abbrev pub IsNewest : Event → List Event → Type 0
-IsNewest call calls = (older : List Event) × (calls ≡ call ∷ older)
+-- and one that is marked only then stays so too
+abbrev pub StaysTrue : (was : List Event) → (lost : Bool) → (now : List Event) → (loses : Bool) → Type 0
+StaysTrue was lost now loses = (IsTrue lost → SomeSyncFailed was) → IsTrue loses → SomeSyncFailed now
 
--- the newest call was this one, on an open file that stands under the name
-pub record IsOn (name : Name) (call : ℕ → Event) (calls : List Event) : Type 0 where
+-- the newest call was this one, and was made since
+abbrev pub IsNewest : Event → (old new : List Event) → Type 0
+IsNewest call old new = (older : List Event) × (new ≡ call ∷ older) × (length old < length new)
+
+-- the newest call was this one, made since, on an open file that stands under the name
+pub record IsOn (name : Name) (call : ℕ → Event) (old new : List Event) : Type 0 where
   pub file : ℕ
   pub older : List Event
-  pub newest : calls ≡ call file ∷ older
+  pub newest : new ≡ call file ∷ older
+  pub since : length old < length new
   pub stands : StandsUnder name file older
 
 -- The name stands for a new, empty file, and both are on the disk.

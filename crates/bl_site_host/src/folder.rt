@@ -2,7 +2,8 @@
 ghost use Rattle.std.specs.Prelude.{◌≡◌, ◌≢◌, ◌≤◌, ◌<◌, ◌∷◌, [], List, Option, length, take, map, true, false, IfOk, IfErr, IfSome, IsTrue, IsErr, OnOk, slice_index_or};
 ghost use Rattle.std.specs.String.{string_bytes};
 ghost use Rattle.bl_site.specs.Disk.{Name};
-ghost use Rattle.bl_site_host.specs.Events.{Event, Looked, Listing, Read, Wrote, SyncedFile, SyncedFolder, Renamed, Removed, SawNoOther, IsNewest, IsOn, IsMade, IsOnDisk, StaysMarked, files_of, found_of};
+ghost use Rattle.bl_site_host.specs.Events.{Event, Looked, Listing, ListingBroke, Read, Wrote, SyncedFile, SyncedFolder, Renamed, Removed, SawNoOther, IsNewest, IsOn, IsMade, IsOnDisk, StaysMarked, StaysTrue, files_of, found_of};
+ghost use Rattle.bl_site_host.specs.Stops.{FailsBy, GoesThrough, NoFile, NotRenamed, OtherThing};
 ghost use Rattle.bl_site_host.specs.Changes.{ChangesNone, Changes, IsMaking, IsWriting, IsRenaming, IsRemoving};
 ghost use Rattle.bl_site_host.specs.declared.faults.Fault.TheVariants.{Memory};
 ghost use Rattle.bl_site_host.specs.Handles.{StaysSound, IsSound, OldestIsLetGo, IsPlaceOf};
@@ -41,7 +42,10 @@ impl<S: System + Drop> Folder<S> {
         ensures seen { S.shows → IfOk result (λ length. S.calls self.new.system ≡ Looked name.now (Some (found_of length)) ∷ S.calls self.old.system) }
         ensures changes { S.shows → ChangesNone (S.calls self.old.system) (S.calls self.new.system) }
         ensures marked { S.shows → StaysMarked (S.calls self.old.system) self.old.lost (S.calls self.new.system) self.new.lost }
+        ensures reason { S.shows → StaysTrue (S.calls self.old.system) self.old.lost (S.calls self.new.system) self.new.lost }
         ensures sound { S.shows → StaysSound S.id (S.calls self.old.system) self.old.handles.open.items (S.calls self.new.system) self.new.handles.open.items }
+        ensures failed { S.shows → IfErr result (λ fault. FailsBy (OtherThing name.now) self.new.lost fault (S.calls self.old.system) (S.calls self.new.system)) }
+        ensures grows { S.shows → length (S.calls self.old.system) < length (S.calls self.new.system) }
     {
         match self.system.look(name)? {
             Found::Nothing => Ok(None),
@@ -56,7 +60,9 @@ impl<S: System + Drop> Folder<S> {
         ensures changes { S.shows → ChangesNone (S.calls self.old.system) (S.calls self.new.system) }
         ensures stays_lost { IsTrue self.old.lost → IsTrue self.new.lost }
         ensures marked { S.shows → StaysMarked (S.calls self.old.system) self.old.lost (S.calls self.new.system) self.new.lost }
+        ensures reason { S.shows → StaysTrue (S.calls self.old.system) self.old.lost (S.calls self.new.system) self.new.lost }
         ensures sound { S.shows → StaysSound S.id (S.calls self.old.system) self.old.handles.open.items (S.calls self.new.system) self.new.handles.open.items }
+        ensures failed { S.shows → IfErr result (λ fault. FailsBy (λ _ _. ⊥) self.new.lost fault (S.calls self.old.system) (S.calls self.new.system)) }
     {
         let entries = self.system.list()?;
         files(alloc, &mut self.system, entries)
@@ -70,12 +76,14 @@ impl<S: System + Drop> Folder<S> {
     ) -> Result<Option<usize>, Fault>
         ensures bound { IfOk result (λ r. IfSome r (λ count. count ≤ length into.new)) }
         ensures bytes { S.shows → IsSound S.id (S.calls self.old.system) self.old.handles.open.items
-            → IfOk result (λ r. IfSome r (λ count. IsOn name.now (λ file. Read file offset (length into.old) (Some (take count into.new))) (S.calls self.new.system))) }
-        ensures absent { S.shows → result ≡ Ok None → IsNewest (Looked name.now (Some Found.Nothing)) (S.calls self.new.system) }
+            → IfOk result (λ r. IfSome r (λ count. IsOn name.now (λ file. Read file offset (length into.old) (Some (take count into.new))) (S.calls self.old.system) (S.calls self.new.system))) }
+        ensures absent { S.shows → result ≡ Ok None → IsNewest (Looked name.now (Some Found.Nothing)) (S.calls self.old.system) (S.calls self.new.system) }
         ensures changes { S.shows → ChangesNone (S.calls self.old.system) (S.calls self.new.system) }
         ensures stays_lost { IsTrue self.old.lost → IsTrue self.new.lost }
         ensures marked { S.shows → StaysMarked (S.calls self.old.system) self.old.lost (S.calls self.new.system) self.new.lost }
+        ensures reason { S.shows → StaysTrue (S.calls self.old.system) self.old.lost (S.calls self.new.system) self.new.lost }
         ensures sound { S.shows → StaysSound S.id (S.calls self.old.system) self.old.handles.open.items (S.calls self.new.system) self.new.handles.open.items }
+        ensures failed { S.shows → IfErr result (λ fault. FailsBy (OtherThing name.now) self.new.lost fault (S.calls self.old.system) (S.calls self.new.system)) }
     {
         let Some(at) = self.opened(name, false)? else {
             return Ok(None);
@@ -86,11 +94,13 @@ impl<S: System + Drop> Folder<S> {
 
     pub(crate) fn append(&mut self, name: &str, bytes: &[u8]) -> Result<(), Fault>
         ensures bytes { S.shows → IsSound S.id (S.calls self.old.system) self.old.handles.open.items
-            → OnOk result (IsOn name.now (λ file. Wrote file bytes.now true) (S.calls self.new.system)) }
+            → OnOk result (IsOn name.now (λ file. Wrote file bytes.now true) (S.calls self.old.system) (S.calls self.new.system)) }
         ensures changes { S.shows → Changes (IsWriting bytes.now) result (S.calls self.old.system) (S.calls self.new.system) }
         ensures stays_lost { IsTrue self.old.lost → IsTrue self.new.lost }
         ensures marked { S.shows → StaysMarked (S.calls self.old.system) self.old.lost (S.calls self.new.system) self.new.lost }
+        ensures reason { S.shows → StaysTrue (S.calls self.old.system) self.old.lost (S.calls self.new.system) self.new.lost }
         ensures sound { S.shows → StaysSound S.id (S.calls self.old.system) self.old.handles.open.items (S.calls self.new.system) self.new.handles.open.items }
+        ensures failed { S.shows → IfErr result (λ fault. FailsBy (NoFile name.now) self.new.lost fault (S.calls self.old.system) (S.calls self.new.system)) }
     {
         let Some(at) = self.opened(name, true)? else {
             return Err(no_such_file());
@@ -103,11 +113,13 @@ impl<S: System + Drop> Folder<S> {
     pub(crate) fn sync(&mut self, name: &str) -> Result<(), Fault>
         ensures lost { IsTrue self.old.lost → IsErr result }
         ensures file { S.shows → IsSound S.id (S.calls self.old.system) self.old.handles.open.items
-            → OnOk result (IsOn name.now (λ file. SyncedFile file true) (S.calls self.new.system)) }
+            → OnOk result (IsOn name.now (λ file. SyncedFile file true) (S.calls self.old.system) (S.calls self.new.system)) }
         ensures changes { S.shows → ChangesNone (S.calls self.old.system) (S.calls self.new.system) }
         ensures stays_lost { IsTrue self.old.lost → IsTrue self.new.lost }
         ensures marked { S.shows → StaysMarked (S.calls self.old.system) self.old.lost (S.calls self.new.system) self.new.lost }
+        ensures reason { S.shows → StaysTrue (S.calls self.old.system) self.old.lost (S.calls self.new.system) self.new.lost }
         ensures sound { S.shows → StaysSound S.id (S.calls self.old.system) self.old.handles.open.items (S.calls self.new.system) self.new.handles.open.items }
+        ensures failed { S.shows → IfErr result (λ fault. FailsBy (NoFile name.now) self.new.lost fault (S.calls self.old.system) (S.calls self.new.system)) }
     {
         let Some(at) = self.opened(name, false)? else {
             return Err(no_such_file());
@@ -125,7 +137,9 @@ impl<S: System + Drop> Folder<S> {
         ensures changes { S.shows → Changes (IsMaking name.now) result (S.calls self.old.system) (S.calls self.new.system) }
         ensures stays_lost { IsTrue self.old.lost → IsTrue self.new.lost }
         ensures marked { S.shows → StaysMarked (S.calls self.old.system) self.old.lost (S.calls self.new.system) self.new.lost }
+        ensures reason { S.shows → StaysTrue (S.calls self.old.system) self.old.lost (S.calls self.new.system) self.new.lost }
         ensures sound { S.shows → StaysSound S.id (S.calls self.old.system) self.old.handles.open.items (S.calls self.new.system) self.new.handles.open.items }
+        ensures failed { S.shows → IfErr result (λ fault. FailsBy (OtherThing name.now) self.new.lost fault (S.calls self.old.system) (S.calls self.new.system)) }
     {
         let replaces = self.is_there(name)?;
         self.handles.close(name);
@@ -141,12 +155,15 @@ impl<S: System + Drop> Folder<S> {
         ensures changes { S.shows → Changes (IsRenaming from.now to.now) result (S.calls self.old.system) (S.calls self.new.system) }
         ensures stays_lost { IsTrue self.old.lost → IsTrue self.new.lost }
         ensures marked { S.shows → StaysMarked (S.calls self.old.system) self.old.lost (S.calls self.new.system) self.new.lost }
+        ensures reason { S.shows → StaysTrue (S.calls self.old.system) self.old.lost (S.calls self.new.system) self.new.lost }
         ensures sound { S.shows → StaysSound S.id (S.calls self.old.system) self.old.handles.open.items (S.calls self.new.system) self.new.handles.open.items }
+        ensures failed { S.shows → IfErr result (λ fault. FailsBy (NotRenamed from.now to.now) self.new.lost fault (S.calls self.old.system) (S.calls self.new.system)) }
     {
         if !self.is_there(from)? {
             return Err(no_such_file());
         }
         let _replaces = self.is_there(to)?;
+        self.settle(from)?;
         self.handles.close(from);
         self.handles.close(to);
         changed(self.system.rename(from, to))?;
@@ -159,7 +176,9 @@ impl<S: System + Drop> Folder<S> {
         ensures changes { S.shows → Changes (IsRemoving name.now) result (S.calls self.old.system) (S.calls self.new.system) }
         ensures stays_lost { IsTrue self.old.lost → IsTrue self.new.lost }
         ensures marked { S.shows → StaysMarked (S.calls self.old.system) self.old.lost (S.calls self.new.system) self.new.lost }
+        ensures reason { S.shows → StaysTrue (S.calls self.old.system) self.old.lost (S.calls self.new.system) self.new.lost }
         ensures sound { S.shows → StaysSound S.id (S.calls self.old.system) self.old.handles.open.items (S.calls self.new.system) self.new.handles.open.items }
+        ensures failed { S.shows → IfErr result (λ fault. FailsBy (NoFile name.now) self.new.lost fault (S.calls self.old.system) (S.calls self.new.system)) }
     {
         if !self.is_there(name)? {
             return Err(no_such_file());
@@ -169,14 +188,40 @@ impl<S: System + Drop> Folder<S> {
         self.sync_names()
     }
 
+    // What was appended to the open file of this name is put on the disk before it is closed, so that no failure to do so goes unseen.
+    fn settle(&mut self, name: &str) -> Result<(), Fault>
+        ensures lost { IsTrue self.old.lost → IsTrue self.new.lost }
+        ensures disk { IfErr result (λ fault. fault ≢ Memory) }
+        ensures changes { S.shows → ChangesNone (S.calls self.old.system) (S.calls self.new.system) }
+        ensures marked { S.shows → StaysMarked (S.calls self.old.system) self.old.lost (S.calls self.new.system) self.new.lost }
+        ensures reason { S.shows → StaysTrue (S.calls self.old.system) self.old.lost (S.calls self.new.system) self.new.lost }
+        ensures sound { S.shows → StaysSound S.id (S.calls self.old.system) self.old.handles.open.items (S.calls self.new.system) self.new.handles.open.items }
+        ensures failed { S.shows → IfErr result (λ fault. FailsBy (λ _ _. ⊥) self.new.lost fault (S.calls self.old.system) (S.calls self.new.system)) }
+        ensures grows { S.shows → length (S.calls self.old.system) ≤ length (S.calls self.new.system) }
+    {
+        let Some(at) = self.handles.place(name) else {
+            return Ok(());
+        };
+        let handle = &mut self.handles.open[at];
+        if !handle.unsynced {
+            return Ok(());
+        }
+        let written = self.system.sync_file(&handle.file);
+        handle.unsynced = written.is_err();
+        synced(&mut self.lost, written)
+    }
+
     // Whether a regular file stands under the name.
     fn is_there(&mut self, name: &str) -> Result<bool, Fault>
         ensures seen { S.shows → OnOk result (SawNoOther name.now (S.calls self.new.system)) }
-        ensures absent { S.shows → result ≡ Ok false → IsNewest (Looked name.now (Some Found.Nothing)) (S.calls self.new.system) }
+        ensures absent { S.shows → result ≡ Ok false → IsNewest (Looked name.now (Some Found.Nothing)) (S.calls self.old.system) (S.calls self.new.system) }
         ensures lost { self.new.lost ≡ self.old.lost }
         ensures changes { S.shows → ChangesNone (S.calls self.old.system) (S.calls self.new.system) }
         ensures marked { S.shows → StaysMarked (S.calls self.old.system) self.old.lost (S.calls self.new.system) self.new.lost }
+        ensures reason { S.shows → StaysTrue (S.calls self.old.system) self.old.lost (S.calls self.new.system) self.new.lost }
         ensures sound { S.shows → StaysSound S.id (S.calls self.old.system) self.old.handles.open.items (S.calls self.new.system) self.new.handles.open.items }
+        ensures failed { S.shows → IfErr result (λ fault. FailsBy (OtherThing name.now) self.new.lost fault (S.calls self.old.system) (S.calls self.new.system)) }
+        ensures grows { S.shows → length (S.calls self.old.system) < length (S.calls self.new.system) }
     {
         Ok(self.length(name)?.is_some())
     }
@@ -189,7 +234,10 @@ impl<S: System + Drop> Folder<S> {
         ensures stays_lost { IsTrue self.old.lost → IsTrue self.new.lost }
         ensures disk { IfErr result (λ fault. fault ≢ Memory) }
         ensures marked { S.shows → StaysMarked (S.calls self.old.system) self.old.lost (S.calls self.new.system) self.new.lost }
+        ensures reason { S.shows → StaysTrue (S.calls self.old.system) self.old.lost (S.calls self.new.system) self.new.lost }
         ensures sound { S.shows → StaysSound S.id (S.calls self.old.system) self.old.handles.open.items (S.calls self.new.system) self.new.handles.open.items }
+        ensures failed { S.shows → IfErr result (λ fault. FailsBy (λ _ _. ⊥) self.new.lost fault (S.calls self.old.system) (S.calls self.new.system)) }
+        ensures grows { S.shows → length (S.calls self.old.system) < length (S.calls self.new.system) }
     {
         let done = self.system.sync_folder();
         synced(&mut self.lost, done)
@@ -198,11 +246,14 @@ impl<S: System + Drop> Folder<S> {
     // The place of the open file of this name, which is opened where it is not, or `None` where there is no such file.
     fn opened(&mut self, name: &str, appends: bool) -> Result<Option<usize>, Fault>
         ensures place { IfOk result (λ place. IfSome place (IsPlaceOf name.now self.new.handles.open.items)) }
-        ensures absent { S.shows → result ≡ Ok None → IsNewest (Looked name.now (Some Found.Nothing)) (S.calls self.new.system) }
+        ensures absent { S.shows → result ≡ Ok None → IsNewest (Looked name.now (Some Found.Nothing)) (S.calls self.old.system) (S.calls self.new.system) }
         ensures lost { IsTrue self.old.lost → IsTrue self.new.lost }
         ensures changes { S.shows → ChangesNone (S.calls self.old.system) (S.calls self.new.system) }
         ensures marked { S.shows → StaysMarked (S.calls self.old.system) self.old.lost (S.calls self.new.system) self.new.lost }
+        ensures reason { S.shows → StaysTrue (S.calls self.old.system) self.old.lost (S.calls self.new.system) self.new.lost }
         ensures sound { S.shows → StaysSound S.id (S.calls self.old.system) self.old.handles.open.items (S.calls self.new.system) self.new.handles.open.items }
+        ensures failed { S.shows → IfErr result (λ fault. FailsBy (OtherThing name.now) self.new.lost fault (S.calls self.old.system) (S.calls self.new.system)) }
+        ensures grows { S.shows → length (S.calls self.old.system) ≤ length (S.calls self.new.system) }
     {
         if let Some(at) = self.usable(name, appends) {
             return Ok(Some(at));
@@ -229,11 +280,14 @@ impl<S: System + Drop> Folder<S> {
     // Opens the file of this name, and answers its place, or `None` where there is no such file.
     fn open_new(&mut self, name: &str, appends: bool) -> Result<Option<usize>, Fault>
         ensures place { IfOk result (λ place. IfSome place (IsPlaceOf name.now self.new.handles.open.items)) }
-        ensures absent { S.shows → result ≡ Ok None → IsNewest (Looked name.now (Some Found.Nothing)) (S.calls self.new.system) }
+        ensures absent { S.shows → result ≡ Ok None → IsNewest (Looked name.now (Some Found.Nothing)) (S.calls self.old.system) (S.calls self.new.system) }
         ensures lost { self.new.lost ≡ self.old.lost }
         ensures changes { S.shows → ChangesNone (S.calls self.old.system) (S.calls self.new.system) }
         ensures marked { S.shows → StaysMarked (S.calls self.old.system) self.old.lost (S.calls self.new.system) self.new.lost }
+        ensures reason { S.shows → StaysTrue (S.calls self.old.system) self.old.lost (S.calls self.new.system) self.new.lost }
         ensures sound { S.shows → StaysSound S.id (S.calls self.old.system) self.old.handles.open.items (S.calls self.new.system) self.new.handles.open.items }
+        ensures failed { S.shows → IfErr result (λ fault. FailsBy (OtherThing name.now) self.new.lost fault (S.calls self.old.system) (S.calls self.new.system)) }
+        ensures grows { S.shows → length (S.calls self.old.system) ≤ length (S.calls self.new.system) }
     {
         let key = String::from_str(self.alloc, name)?;
         if !self.is_there(name)? {
@@ -250,7 +304,10 @@ impl<S: System + Drop> Folder<S> {
             → OldestIsLetGo S.id (S.calls self.old.system) self.old.handles.open.items (S.calls self.new.system) self.new.handles.open.items) }
         ensures changes { S.shows → ChangesNone (S.calls self.old.system) (S.calls self.new.system) }
         ensures marked { S.shows → StaysMarked (S.calls self.old.system) self.old.lost (S.calls self.new.system) self.new.lost }
+        ensures reason { S.shows → StaysTrue (S.calls self.old.system) self.old.lost (S.calls self.new.system) self.new.lost }
         ensures sound { S.shows → StaysSound S.id (S.calls self.old.system) self.old.handles.open.items (S.calls self.new.system) self.new.handles.open.items }
+        ensures failed { S.shows → IfErr result (λ fault. FailsBy (λ _ _. ⊥) self.new.lost fault (S.calls self.old.system) (S.calls self.new.system)) }
+        ensures grows { S.shows → length (S.calls self.old.system) ≤ length (S.calls self.new.system) }
     {
         if self.handles.is_full() {
             return self.close_oldest();
@@ -265,7 +322,10 @@ impl<S: System + Drop> Folder<S> {
             → OldestIsLetGo S.id (S.calls self.old.system) self.old.handles.open.items (S.calls self.new.system) self.new.handles.open.items) }
         ensures changes { S.shows → ChangesNone (S.calls self.old.system) (S.calls self.new.system) }
         ensures marked { S.shows → StaysMarked (S.calls self.old.system) self.old.lost (S.calls self.new.system) self.new.lost }
+        ensures reason { S.shows → StaysTrue (S.calls self.old.system) self.old.lost (S.calls self.new.system) self.new.lost }
         ensures sound { S.shows → StaysSound S.id (S.calls self.old.system) self.old.handles.open.items (S.calls self.new.system) self.new.handles.open.items }
+        ensures failed { S.shows → IfErr result (λ fault. FailsBy (λ _ _. ⊥) self.new.lost fault (S.calls self.old.system) (S.calls self.new.system)) }
+        ensures grows { S.shows → length (S.calls self.old.system) ≤ length (S.calls self.new.system) }
     {
         match self.handles.take_oldest() {
             Some(oldest) if oldest.unsynced => {
@@ -284,7 +344,9 @@ fn files<S: System + Drop>(
     mut entries: S::Entries,
 ) -> Result<Vec<String>, Fault>
     ensures all { S.shows → IfOk result (λ names. map string_bytes names.items ≡ files_of (S.left entries)) }
-    ensures calls { S.shows → S.calls system.new ≡ S.calls system.old }
+    ensures calls { S.shows → OnOk result (S.calls system.new ≡ S.calls system.old) }
+    ensures goes { S.shows → GoesThrough (S.calls system.old) (S.calls system.new) }
+    ensures failed { S.shows → IfErr result (λ fault. fault ≢ Memory → S.calls system.new ≡ ListingBroke ∷ S.calls system.old) }
 {
     let mut names = Vec::new(alloc);
     'entries: for _entry in 0..u64::MAX {

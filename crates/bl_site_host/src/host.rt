@@ -8,6 +8,7 @@ use crate::system::{Found, Listed, System};
 use std::alloc::Global;
 use std::fs::{self, File, OpenFile, OpenOptions, ReadDir, TryLockError};
 use std::io::{self, ErrorKind, Print, Seek, SeekFrom, Write};
+use std::os::fd::AsRawFd;
 use std::rt::Files;
 
 // Where Linux tells the limits of this process.
@@ -42,11 +43,12 @@ impl<R: Files + AllocGlobal + Clone + Drop> Host<R> {
 
 // How long a file may get by these limits, as the system writes them; `None` where that is unlimited.
 fn file_limit(limits: &str) -> Option<u64> {
-    let line = limits
-        .lines()
-        .find(|line| line.starts_with("Max file size"))?;
-    let soft = line.split_whitespace().nth(3)?;
-    soft.parse::<u64>().ok()
+    for line in limits.lines() {
+        if let Some(limit) = line.strip_prefix("Max file size") {
+            return limit.split_whitespace().next()?.parse::<u64>().ok();
+        }
+    }
+    None
 }
 
 impl<R: Files + AllocGlobal + Clone + Drop> System for Host<R> {
@@ -159,13 +161,23 @@ impl<R: Files<File = File> + Drop> Door for HostDoor<R> {
 
     ghost shows = { ⊥ };
 
+    ghost knocks = { λ _. [] };
+
     ghost locked = { λ _. ⊥ };
 
-    fn open(&self) -> io::Result<File> {
+    ghost taken = { λ _ _. ⊥ };
+
+    ghost place = { λ _. 0 };
+
+    fn open(&mut self) -> io::Result<File> {
         fs::open(&self.rt, ".")
     }
 
-    fn lock(&self, folder: &mut File) -> Result<(), LockErr> {
+    fn place(&self, folder: &File) -> u32 {
+        folder.as_raw_fd().unsigned_abs()
+    }
+
+    fn lock(&mut self, folder: &mut File) -> Result<(), LockErr> {
         match folder.try_lock() {
             Ok(()) => Ok(()),
             Err(TryLockError::WouldBlock) => Err(LockErr::Held),
@@ -177,13 +189,7 @@ impl<R: Files<File = File> + Drop> Door for HostDoor<R> {
 /// Standard output. It holds no bytes back: a write is one of the system.
 #[derive(Drop)]
 pub struct Standard<P: Print + Drop> {
-    to: P,
-}
-
-impl<P: Print + Drop> Standard<P> {
-    pub(crate) fn new(to: P) -> Standard<P> {
-        Standard { to }
-    }
+    pub(crate) to: P,
 }
 
 impl<P: Print + Drop> Write for Standard<P> {

@@ -5,9 +5,10 @@ ghost use Rattle.std.specs.String.{string_bytes};
 ghost use Rattle.std.specs.Io.KnownBytes.{Appends};
 ghost use Rattle.bl_site.specs.Disk.{Name};
 ghost use Rattle.bl_site_host.specs.Changes.{ChangesNone, Changes, IsMaking, IsWriting, IsRenaming, IsRemoving};
-ghost use Rattle.bl_site_host.specs.Events.{Looked, Listing, Read, Wrote, SyncedFile, Renamed, Removed, IsNewest, IsOn, IsMade, IsOnDisk, StaysMarked, files_of, found_of};
+ghost use Rattle.bl_site_host.specs.Events.{Looked, Listing, Read, Wrote, SyncedFile, Renamed, Removed, IsNewest, IsOn, IsMade, IsOnDisk, StaysMarked, StaysTrue, files_of, found_of};
 ghost use Rattle.bl_site_host.specs.declared.faults.Fault.TheVariants.{Memory};
 ghost use Rattle.bl_site_host.specs.Failures.{IsKept, IsPut};
+ghost use Rattle.bl_site_host.specs.Stops.{FailsBy, NoFile, NotRenamed, OtherThing};
 ghost use Rattle.bl_site_host.specs.Handles.{IsSound, StaysSound};
 
 use crate::failure::{Asked, Failure};
@@ -76,25 +77,15 @@ pub(crate) struct Keeper<S: System + Drop> {
 }
 
 impl<S: System + Drop> Keeper<S> {
-    pub(crate) fn new(alloc: Global, system: S) -> Keeper<S>
-        ensures last { result.failures.last ≡ None }
-        ensures system { result.folder.system ≡ system }
-        ensures lost { result.folder.lost ≡ false }
-        ensures sound { S.calls system ≡ [] → IsSound S.id (S.calls result.folder.system) result.folder.handles.open.items }
-    {
-        Keeper {
-            folder: Folder::new(alloc, system),
-            failures: Failures::new(alloc),
-        }
-    }
-
     pub(crate) fn length(&mut self, name: &str) -> Result<Option<u64>, Fault>
         ensures seen { S.shows → IfOk result (λ length. S.calls self.new.folder.system ≡ Looked name.now (Some (found_of length)) ∷ S.calls self.old.folder.system) }
         ensures changes { S.shows → ChangesNone (S.calls self.old.folder.system) (S.calls self.new.folder.system) }
         ensures sound { S.shows → StaysSound S.id (S.calls self.old.folder.system) self.old.folder.handles.open.items (S.calls self.new.folder.system) self.new.folder.handles.open.items }
         ensures stays_lost { IsTrue self.old.folder.lost → IsTrue self.new.folder.lost }
         ensures marked { S.shows → StaysMarked (S.calls self.old.folder.system) self.old.folder.lost (S.calls self.new.folder.system) self.new.folder.lost }
+        ensures reason { S.shows → StaysTrue (S.calls self.old.folder.system) self.old.folder.lost (S.calls self.new.folder.system) self.new.folder.lost }
         ensures kept { IsKept Asked.Length name.now result self.old.failures.last self.new.failures.last }
+        ensures failed { S.shows → IfErr result (λ fault. FailsBy (OtherThing name.now) self.new.folder.lost fault (S.calls self.old.folder.system) (S.calls self.new.folder.system)) }
     {
         let done = self.folder.length(name);
         self.failures.keep(Asked::Length, name, &done);
@@ -107,7 +98,9 @@ impl<S: System + Drop> Keeper<S> {
         ensures sound { S.shows → StaysSound S.id (S.calls self.old.folder.system) self.old.folder.handles.open.items (S.calls self.new.folder.system) self.new.folder.handles.open.items }
         ensures stays_lost { IsTrue self.old.folder.lost → IsTrue self.new.folder.lost }
         ensures marked { S.shows → StaysMarked (S.calls self.old.folder.system) self.old.folder.lost (S.calls self.new.folder.system) self.new.folder.lost }
+        ensures reason { S.shows → StaysTrue (S.calls self.old.folder.system) self.old.folder.lost (S.calls self.new.folder.system) self.new.folder.lost }
         ensures kept { IsKept Asked.List [] result self.old.failures.last self.new.failures.last }
+        ensures failed { S.shows → IfErr result (λ fault. FailsBy (λ _ _. ⊥) self.new.folder.lost fault (S.calls self.old.folder.system) (S.calls self.new.folder.system)) }
     {
         let done = self.folder.names(alloc);
         self.failures.keep(Asked::List, "", &done);
@@ -122,13 +115,15 @@ impl<S: System + Drop> Keeper<S> {
     ) -> Result<Option<usize>, Fault>
         ensures bound { IfOk result (λ r. IfSome r (λ count. count ≤ length into.new)) }
         ensures bytes { S.shows → IsSound S.id (S.calls self.old.folder.system) self.old.folder.handles.open.items
-            → IfOk result (λ r. IfSome r (λ count. IsOn name.now (λ file. Read file offset (length into.old) (Some (take count into.new))) (S.calls self.new.folder.system))) }
-        ensures absent { S.shows → result ≡ Ok None → IsNewest (Looked name.now (Some Found.Nothing)) (S.calls self.new.folder.system) }
+            → IfOk result (λ r. IfSome r (λ count. IsOn name.now (λ file. Read file offset (length into.old) (Some (take count into.new))) (S.calls self.old.folder.system) (S.calls self.new.folder.system))) }
+        ensures absent { S.shows → result ≡ Ok None → IsNewest (Looked name.now (Some Found.Nothing)) (S.calls self.old.folder.system) (S.calls self.new.folder.system) }
         ensures changes { S.shows → ChangesNone (S.calls self.old.folder.system) (S.calls self.new.folder.system) }
         ensures sound { S.shows → StaysSound S.id (S.calls self.old.folder.system) self.old.folder.handles.open.items (S.calls self.new.folder.system) self.new.folder.handles.open.items }
         ensures stays_lost { IsTrue self.old.folder.lost → IsTrue self.new.folder.lost }
         ensures marked { S.shows → StaysMarked (S.calls self.old.folder.system) self.old.folder.lost (S.calls self.new.folder.system) self.new.folder.lost }
+        ensures reason { S.shows → StaysTrue (S.calls self.old.folder.system) self.old.folder.lost (S.calls self.new.folder.system) self.new.folder.lost }
         ensures kept { IsKept Asked.Read name.now result self.old.failures.last self.new.failures.last }
+        ensures failed { S.shows → IfErr result (λ fault. FailsBy (OtherThing name.now) self.new.folder.lost fault (S.calls self.old.folder.system) (S.calls self.new.folder.system)) }
     {
         let done = self.folder.read(name, offset, into);
         self.failures.keep(Asked::Read, name, &done);
@@ -142,7 +137,9 @@ impl<S: System + Drop> Keeper<S> {
         ensures sound { S.shows → StaysSound S.id (S.calls self.old.folder.system) self.old.folder.handles.open.items (S.calls self.new.folder.system) self.new.folder.handles.open.items }
         ensures stays_lost { IsTrue self.old.folder.lost → IsTrue self.new.folder.lost }
         ensures marked { S.shows → StaysMarked (S.calls self.old.folder.system) self.old.folder.lost (S.calls self.new.folder.system) self.new.folder.lost }
+        ensures reason { S.shows → StaysTrue (S.calls self.old.folder.system) self.old.folder.lost (S.calls self.new.folder.system) self.new.folder.lost }
         ensures kept { IsKept Asked.Create name.now result self.old.failures.last self.new.failures.last }
+        ensures failed { S.shows → IfErr result (λ fault. FailsBy (OtherThing name.now) self.new.folder.lost fault (S.calls self.old.folder.system) (S.calls self.new.folder.system)) }
     {
         let done = self.folder.create(name);
         self.failures.keep(Asked::Create, name, &done);
@@ -151,12 +148,14 @@ impl<S: System + Drop> Keeper<S> {
 
     pub(crate) fn append(&mut self, name: &str, bytes: &[u8]) -> Result<(), Fault>
         ensures bytes { S.shows → IsSound S.id (S.calls self.old.folder.system) self.old.folder.handles.open.items
-            → OnOk result (IsOn name.now (λ file. Wrote file bytes.now true) (S.calls self.new.folder.system)) }
+            → OnOk result (IsOn name.now (λ file. Wrote file bytes.now true) (S.calls self.old.folder.system) (S.calls self.new.folder.system)) }
         ensures changes { S.shows → Changes (IsWriting bytes.now) result (S.calls self.old.folder.system) (S.calls self.new.folder.system) }
         ensures sound { S.shows → StaysSound S.id (S.calls self.old.folder.system) self.old.folder.handles.open.items (S.calls self.new.folder.system) self.new.folder.handles.open.items }
         ensures stays_lost { IsTrue self.old.folder.lost → IsTrue self.new.folder.lost }
         ensures marked { S.shows → StaysMarked (S.calls self.old.folder.system) self.old.folder.lost (S.calls self.new.folder.system) self.new.folder.lost }
+        ensures reason { S.shows → StaysTrue (S.calls self.old.folder.system) self.old.folder.lost (S.calls self.new.folder.system) self.new.folder.lost }
         ensures kept { IsKept Asked.Append name.now result self.old.failures.last self.new.failures.last }
+        ensures failed { S.shows → IfErr result (λ fault. FailsBy (NoFile name.now) self.new.folder.lost fault (S.calls self.old.folder.system) (S.calls self.new.folder.system)) }
     {
         let done = self.folder.append(name, bytes);
         self.failures.keep(Asked::Append, name, &done);
@@ -166,12 +165,14 @@ impl<S: System + Drop> Keeper<S> {
     pub(crate) fn sync(&mut self, name: &str) -> Result<(), Fault>
         ensures lost { IsTrue self.old.folder.lost → IsErr result }
         ensures file { S.shows → IsSound S.id (S.calls self.old.folder.system) self.old.folder.handles.open.items
-            → OnOk result (IsOn name.now (λ file. SyncedFile file true) (S.calls self.new.folder.system)) }
+            → OnOk result (IsOn name.now (λ file. SyncedFile file true) (S.calls self.old.folder.system) (S.calls self.new.folder.system)) }
         ensures changes { S.shows → ChangesNone (S.calls self.old.folder.system) (S.calls self.new.folder.system) }
         ensures sound { S.shows → StaysSound S.id (S.calls self.old.folder.system) self.old.folder.handles.open.items (S.calls self.new.folder.system) self.new.folder.handles.open.items }
         ensures stays_lost { IsTrue self.old.folder.lost → IsTrue self.new.folder.lost }
         ensures marked { S.shows → StaysMarked (S.calls self.old.folder.system) self.old.folder.lost (S.calls self.new.folder.system) self.new.folder.lost }
+        ensures reason { S.shows → StaysTrue (S.calls self.old.folder.system) self.old.folder.lost (S.calls self.new.folder.system) self.new.folder.lost }
         ensures kept { IsKept Asked.Sync name.now result self.old.failures.last self.new.failures.last }
+        ensures failed { S.shows → IfErr result (λ fault. FailsBy (NoFile name.now) self.new.folder.lost fault (S.calls self.old.folder.system) (S.calls self.new.folder.system)) }
     {
         let done = self.folder.sync(name);
         self.failures.keep(Asked::Sync, name, &done);
@@ -185,7 +186,9 @@ impl<S: System + Drop> Keeper<S> {
         ensures sound { S.shows → StaysSound S.id (S.calls self.old.folder.system) self.old.folder.handles.open.items (S.calls self.new.folder.system) self.new.folder.handles.open.items }
         ensures stays_lost { IsTrue self.old.folder.lost → IsTrue self.new.folder.lost }
         ensures marked { S.shows → StaysMarked (S.calls self.old.folder.system) self.old.folder.lost (S.calls self.new.folder.system) self.new.folder.lost }
+        ensures reason { S.shows → StaysTrue (S.calls self.old.folder.system) self.old.folder.lost (S.calls self.new.folder.system) self.new.folder.lost }
         ensures kept { IsKept Asked.Rename from.now result self.old.failures.last self.new.failures.last }
+        ensures failed { S.shows → IfErr result (λ fault. FailsBy (NotRenamed from.now to.now) self.new.folder.lost fault (S.calls self.old.folder.system) (S.calls self.new.folder.system)) }
     {
         let done = self.folder.rename(from, to);
         self.failures.keep(Asked::Rename, from, &done);
@@ -199,7 +202,9 @@ impl<S: System + Drop> Keeper<S> {
         ensures sound { S.shows → StaysSound S.id (S.calls self.old.folder.system) self.old.folder.handles.open.items (S.calls self.new.folder.system) self.new.folder.handles.open.items }
         ensures stays_lost { IsTrue self.old.folder.lost → IsTrue self.new.folder.lost }
         ensures marked { S.shows → StaysMarked (S.calls self.old.folder.system) self.old.folder.lost (S.calls self.new.folder.system) self.new.folder.lost }
+        ensures reason { S.shows → StaysTrue (S.calls self.old.folder.system) self.old.folder.lost (S.calls self.new.folder.system) self.new.folder.lost }
         ensures kept { IsKept Asked.Remove name.now result self.old.failures.last self.new.failures.last }
+        ensures failed { S.shows → IfErr result (λ fault. FailsBy (NoFile name.now) self.new.folder.lost fault (S.calls self.old.folder.system) (S.calls self.new.folder.system)) }
     {
         let done = self.folder.remove(name);
         self.failures.keep(Asked::Remove, name, &done);

@@ -14,7 +14,7 @@ use std::io;
 use std::process::Abort;
 use std::test::Fail;
 
-#[derive(Debug, Drop)]
+#[derive(Drop)]
 enum Note {
     Looked(String, Found),
     Listing,
@@ -178,9 +178,15 @@ fn calls_come_in_order(rt: HostRuntime) -> Result<(), Fail> {
         && folder.append("a", b"x").is_ok()
         && folder.sync("a").is_ok()
         && folder.rename("a", "b").is_ok()
-        && folder.append("b", b"y").is_ok();
+        && folder.append("b", b"y").is_ok()
+        && folder.rename("b", "c").is_ok();
     assert!(rt; done);
     let wanted = [
+        ('f', 0),
+        ('v', 0),
+        ('s', 3),
+        ('l', 0),
+        ('l', 0),
         ('w', 3),
         ('o', 3),
         ('l', 0),

@@ -1,19 +1,22 @@
 //! The folder and an output as a site.
-ghost use Rattle.std.specs.Prelude.{◌≡◌, ◌≤◌, ◌∷◌, [], ℕ, List, Option, None, Some, Ok, true, false, length, take, map, IfOk, IfSome, IsErr, IsTrue, OnOk, OnErr};
+ghost use Rattle.std.specs.Prelude.{◌≡◌, ◌≤◌, ◌∷◌, [], ℕ, List, Option, None, Some, Ok, true, false, length, take, map, IfOk, IfSome, IsErr, IsErrOf, IsTrue, OnOk, OnErr};
 ghost use Rattle.std.specs.Option.{option_copied};
 ghost use Rattle.std.specs.String.{string_bytes};
 ghost use Rattle.std.specs.Io.KnownBytes.{Appends};
 ghost use Rattle.bl_site.specs.Causes.{one_more, HasDiskCause, HasTellCause};
 ghost use Rattle.bl_site.specs.Disk.{Name};
 ghost use Rattle.bl_site_host.specs.Changes.{ChangesNone, SiteChanges, IsMaking, IsWriting, IsRenaming, IsRemoving};
-ghost use Rattle.bl_site_host.specs.Events.{Looked, Listing, Read, Wrote, SyncedFile, Renamed, Removed, IsNewest, IsOn, IsMade, IsOnDisk, StaysMarked, files_of, found_of};
+ghost use Rattle.bl_site_host.specs.Events.{Looked, Listing, Read, Wrote, SyncedFile, Renamed, Removed, IsNewest, IsOn, IsMade, IsOnDisk, StaysMarked, StaysTrue, files_of, found_of};
 ghost use Rattle.bl_site_host.specs.Failures.{IsLast};
+ghost use Rattle.bl_site_host.specs.Stops.{StopsSince, NoFile, NotRenamed, OtherThing};
+ghost use Rattle.bl_site.specs.declared.site.SiteErr.TheVariants.{DiskFailed};
 ghost use Rattle.bl_site_host.specs.Handles.{IsSound, StaysSound};
 
 use crate::failure::{Asked, Failure};
 use crate::faults::counted;
+use crate::folder::Folder;
 use crate::host::{Host, Standard};
-use crate::keeper::Keeper;
+use crate::keeper::{Failures, Keeper};
 use crate::output::Output;
 use crate::system::{Found, System};
 use bl_site::{Site, SiteErr};
@@ -45,7 +48,7 @@ impl<R: Files + AllocGlobal + Clone + Drop, P: Print + Drop> HostSite<Host<R>, S
         ensures last { result.keeper.failures.last ≡ None }
         ensures lost { result.keeper.folder.lost ≡ false }
     {
-        HostSite::new(rt.alloc(), Host::new(rt), Standard::new(output))
+        HostSite::new(rt.alloc(), Host::new(rt), Standard { to: output })
     }
 }
 
@@ -61,7 +64,10 @@ impl<S: System + Drop, W: Output + Drop> HostSite<S, W> {
         ensures sound { S.calls system ≡ [] → IsSound S.id (S.calls result.keeper.folder.system) result.keeper.folder.handles.open.items }
     {
         HostSite {
-            keeper: Keeper::new(alloc, system),
+            keeper: Keeper {
+                folder: Folder::new(alloc, system),
+                failures: Failures::new(alloc),
+            },
             output,
             disk_faults: 0,
             tell_faults: 0,
@@ -116,11 +122,13 @@ impl<S: System + Drop, W: Output + Drop> Site for HostSite<S, W> {
         ensures sound { S.shows → StaysSound S.id (S.calls self.old.keeper.folder.system) self.old.keeper.folder.handles.open.items (S.calls self.new.keeper.folder.system) self.new.keeper.folder.handles.open.items }
         ensures stays_lost { IsTrue self.old.keeper.folder.lost → IsTrue self.new.keeper.folder.lost }
         ensures marked { S.shows → StaysMarked (S.calls self.old.keeper.folder.system) self.old.keeper.folder.lost (S.calls self.new.keeper.folder.system) self.new.keeper.folder.lost }
+        ensures reason { S.shows → StaysTrue (S.calls self.old.keeper.folder.system) self.old.keeper.folder.lost (S.calls self.new.keeper.folder.system) self.new.keeper.folder.lost }
         ensures output { self.new.output ≡ self.old.output }
         ensures kept { IsLast Asked.Length name.now result self.old.keeper.failures.last self.new.keeper.failures.last }
         ensures cause { HasDiskCause self.old.disk_faults self.new.disk_faults result }
         ensures tell_faults { self.new.tell_faults ≡ self.old.tell_faults }
         ensures changes { self.new.changes ≡ self.old.changes }
+        ensures failed { S.shows → IsErrOf result DiskFailed → StopsSince (OtherThing name.now) self.new.keeper.folder.lost (S.calls self.old.keeper.folder.system) (S.calls self.new.keeper.folder.system) }
     {
         let done = self.keeper.length(name);
         counted(&mut self.disk_faults, done)
@@ -134,17 +142,19 @@ impl<S: System + Drop, W: Output + Drop> Site for HostSite<S, W> {
     ) -> Result<Option<usize>, SiteErr>
         ensures bound { IfOk result (λ r. IfSome r (λ count. count ≤ length into.new)) }
         ensures bytes { S.shows → IsSound S.id (S.calls self.old.keeper.folder.system) self.old.keeper.folder.handles.open.items
-            → IfOk result (λ r. IfSome r (λ count. IsOn name.now (λ file. Read file offset (length into.old) (Some (take count into.new))) (S.calls self.new.keeper.folder.system))) }
-        ensures absent { S.shows → result ≡ Ok None → IsNewest (Looked name.now (Some Found.Nothing)) (S.calls self.new.keeper.folder.system) }
+            → IfOk result (λ r. IfSome r (λ count. IsOn name.now (λ file. Read file offset (length into.old) (Some (take count into.new))) (S.calls self.old.keeper.folder.system) (S.calls self.new.keeper.folder.system))) }
+        ensures absent { S.shows → result ≡ Ok None → IsNewest (Looked name.now (Some Found.Nothing)) (S.calls self.old.keeper.folder.system) (S.calls self.new.keeper.folder.system) }
         ensures calls { S.shows → ChangesNone (S.calls self.old.keeper.folder.system) (S.calls self.new.keeper.folder.system) }
         ensures sound { S.shows → StaysSound S.id (S.calls self.old.keeper.folder.system) self.old.keeper.folder.handles.open.items (S.calls self.new.keeper.folder.system) self.new.keeper.folder.handles.open.items }
         ensures stays_lost { IsTrue self.old.keeper.folder.lost → IsTrue self.new.keeper.folder.lost }
         ensures marked { S.shows → StaysMarked (S.calls self.old.keeper.folder.system) self.old.keeper.folder.lost (S.calls self.new.keeper.folder.system) self.new.keeper.folder.lost }
+        ensures reason { S.shows → StaysTrue (S.calls self.old.keeper.folder.system) self.old.keeper.folder.lost (S.calls self.new.keeper.folder.system) self.new.keeper.folder.lost }
         ensures output { self.new.output ≡ self.old.output }
         ensures kept { IsLast Asked.Read name.now result self.old.keeper.failures.last self.new.keeper.failures.last }
         ensures cause { HasDiskCause self.old.disk_faults self.new.disk_faults result }
         ensures tell_faults { self.new.tell_faults ≡ self.old.tell_faults }
         ensures changes { self.new.changes ≡ self.old.changes }
+        ensures failed { S.shows → IsErrOf result DiskFailed → StopsSince (OtherThing name.now) self.new.keeper.folder.lost (S.calls self.old.keeper.folder.system) (S.calls self.new.keeper.folder.system) }
     {
         let done = self.keeper.read(name, offset, into);
         counted(&mut self.disk_faults, done)
@@ -156,11 +166,13 @@ impl<S: System + Drop, W: Output + Drop> Site for HostSite<S, W> {
         ensures sound { S.shows → StaysSound S.id (S.calls self.old.keeper.folder.system) self.old.keeper.folder.handles.open.items (S.calls self.new.keeper.folder.system) self.new.keeper.folder.handles.open.items }
         ensures stays_lost { IsTrue self.old.keeper.folder.lost → IsTrue self.new.keeper.folder.lost }
         ensures marked { S.shows → StaysMarked (S.calls self.old.keeper.folder.system) self.old.keeper.folder.lost (S.calls self.new.keeper.folder.system) self.new.keeper.folder.lost }
+        ensures reason { S.shows → StaysTrue (S.calls self.old.keeper.folder.system) self.old.keeper.folder.lost (S.calls self.new.keeper.folder.system) self.new.keeper.folder.lost }
         ensures output { self.new.output ≡ self.old.output }
         ensures kept { IsLast Asked.List [] result self.old.keeper.failures.last self.new.keeper.failures.last }
         ensures cause { HasDiskCause self.old.disk_faults self.new.disk_faults result }
         ensures tell_faults { self.new.tell_faults ≡ self.old.tell_faults }
         ensures changes { self.new.changes ≡ self.old.changes }
+        ensures failed { S.shows → IsErrOf result DiskFailed → StopsSince (λ _ _. ⊥) self.new.keeper.folder.lost (S.calls self.old.keeper.folder.system) (S.calls self.new.keeper.folder.system) }
     {
         let done = self.keeper.names(alloc);
         counted(&mut self.disk_faults, done)
@@ -173,11 +185,13 @@ impl<S: System + Drop, W: Output + Drop> Site for HostSite<S, W> {
         ensures sound { S.shows → StaysSound S.id (S.calls self.old.keeper.folder.system) self.old.keeper.folder.handles.open.items (S.calls self.new.keeper.folder.system) self.new.keeper.folder.handles.open.items }
         ensures stays_lost { IsTrue self.old.keeper.folder.lost → IsTrue self.new.keeper.folder.lost }
         ensures marked { S.shows → StaysMarked (S.calls self.old.keeper.folder.system) self.old.keeper.folder.lost (S.calls self.new.keeper.folder.system) self.new.keeper.folder.lost }
+        ensures reason { S.shows → StaysTrue (S.calls self.old.keeper.folder.system) self.old.keeper.folder.lost (S.calls self.new.keeper.folder.system) self.new.keeper.folder.lost }
         ensures output { self.new.output ≡ self.old.output }
         ensures kept { IsLast Asked.Create name.now result self.old.keeper.failures.last self.new.keeper.failures.last }
         ensures cause { HasDiskCause self.old.disk_faults self.new.disk_faults result }
         ensures tell_faults { self.new.tell_faults ≡ self.old.tell_faults }
         ensures changes { self.new.changes ≡ one_more self.old.changes }
+        ensures failed { S.shows → IsErrOf result DiskFailed → StopsSince (OtherThing name.now) self.new.keeper.folder.lost (S.calls self.old.keeper.folder.system) (S.calls self.new.keeper.folder.system) }
     {
         self.changes = self.changes.saturating_add(1);
         let done = self.keeper.create(name);
@@ -186,16 +200,18 @@ impl<S: System + Drop, W: Output + Drop> Site for HostSite<S, W> {
 
     fn append(&mut self, name: &str, bytes: &[u8]) -> Result<(), SiteErr>
         ensures bytes { S.shows → IsSound S.id (S.calls self.old.keeper.folder.system) self.old.keeper.folder.handles.open.items
-            → OnOk result (IsOn name.now (λ file. Wrote file bytes.now true) (S.calls self.new.keeper.folder.system)) }
+            → OnOk result (IsOn name.now (λ file. Wrote file bytes.now true) (S.calls self.old.keeper.folder.system) (S.calls self.new.keeper.folder.system)) }
         ensures calls { S.shows → SiteChanges (IsWriting bytes.now) result (S.calls self.old.keeper.folder.system) (S.calls self.new.keeper.folder.system) }
         ensures sound { S.shows → StaysSound S.id (S.calls self.old.keeper.folder.system) self.old.keeper.folder.handles.open.items (S.calls self.new.keeper.folder.system) self.new.keeper.folder.handles.open.items }
         ensures stays_lost { IsTrue self.old.keeper.folder.lost → IsTrue self.new.keeper.folder.lost }
         ensures marked { S.shows → StaysMarked (S.calls self.old.keeper.folder.system) self.old.keeper.folder.lost (S.calls self.new.keeper.folder.system) self.new.keeper.folder.lost }
+        ensures reason { S.shows → StaysTrue (S.calls self.old.keeper.folder.system) self.old.keeper.folder.lost (S.calls self.new.keeper.folder.system) self.new.keeper.folder.lost }
         ensures output { self.new.output ≡ self.old.output }
         ensures kept { IsLast Asked.Append name.now result self.old.keeper.failures.last self.new.keeper.failures.last }
         ensures cause { HasDiskCause self.old.disk_faults self.new.disk_faults result }
         ensures tell_faults { self.new.tell_faults ≡ self.old.tell_faults }
         ensures changes { self.new.changes ≡ one_more self.old.changes }
+        ensures failed { S.shows → IsErrOf result DiskFailed → StopsSince (NoFile name.now) self.new.keeper.folder.lost (S.calls self.old.keeper.folder.system) (S.calls self.new.keeper.folder.system) }
     {
         self.changes = self.changes.saturating_add(1);
         let done = self.keeper.append(name, bytes);
@@ -204,17 +220,19 @@ impl<S: System + Drop, W: Output + Drop> Site for HostSite<S, W> {
 
     fn sync(&mut self, name: &str) -> Result<(), SiteErr>
         ensures file { S.shows → IsSound S.id (S.calls self.old.keeper.folder.system) self.old.keeper.folder.handles.open.items
-            → OnOk result (IsOn name.now (λ file. SyncedFile file true) (S.calls self.new.keeper.folder.system)) }
+            → OnOk result (IsOn name.now (λ file. SyncedFile file true) (S.calls self.old.keeper.folder.system) (S.calls self.new.keeper.folder.system)) }
         ensures calls { S.shows → ChangesNone (S.calls self.old.keeper.folder.system) (S.calls self.new.keeper.folder.system) }
         ensures lost { IsTrue self.old.keeper.folder.lost → IsErr result }
         ensures sound { S.shows → StaysSound S.id (S.calls self.old.keeper.folder.system) self.old.keeper.folder.handles.open.items (S.calls self.new.keeper.folder.system) self.new.keeper.folder.handles.open.items }
         ensures stays_lost { IsTrue self.old.keeper.folder.lost → IsTrue self.new.keeper.folder.lost }
         ensures marked { S.shows → StaysMarked (S.calls self.old.keeper.folder.system) self.old.keeper.folder.lost (S.calls self.new.keeper.folder.system) self.new.keeper.folder.lost }
+        ensures reason { S.shows → StaysTrue (S.calls self.old.keeper.folder.system) self.old.keeper.folder.lost (S.calls self.new.keeper.folder.system) self.new.keeper.folder.lost }
         ensures output { self.new.output ≡ self.old.output }
         ensures kept { IsLast Asked.Sync name.now result self.old.keeper.failures.last self.new.keeper.failures.last }
         ensures cause { HasDiskCause self.old.disk_faults self.new.disk_faults result }
         ensures tell_faults { self.new.tell_faults ≡ self.old.tell_faults }
         ensures changes { self.new.changes ≡ one_more self.old.changes }
+        ensures failed { S.shows → IsErrOf result DiskFailed → StopsSince (NoFile name.now) self.new.keeper.folder.lost (S.calls self.old.keeper.folder.system) (S.calls self.new.keeper.folder.system) }
     {
         self.changes = self.changes.saturating_add(1);
         let done = self.keeper.sync(name);
@@ -228,11 +246,13 @@ impl<S: System + Drop, W: Output + Drop> Site for HostSite<S, W> {
         ensures sound { S.shows → StaysSound S.id (S.calls self.old.keeper.folder.system) self.old.keeper.folder.handles.open.items (S.calls self.new.keeper.folder.system) self.new.keeper.folder.handles.open.items }
         ensures stays_lost { IsTrue self.old.keeper.folder.lost → IsTrue self.new.keeper.folder.lost }
         ensures marked { S.shows → StaysMarked (S.calls self.old.keeper.folder.system) self.old.keeper.folder.lost (S.calls self.new.keeper.folder.system) self.new.keeper.folder.lost }
+        ensures reason { S.shows → StaysTrue (S.calls self.old.keeper.folder.system) self.old.keeper.folder.lost (S.calls self.new.keeper.folder.system) self.new.keeper.folder.lost }
         ensures output { self.new.output ≡ self.old.output }
         ensures kept { IsLast Asked.Rename from.now result self.old.keeper.failures.last self.new.keeper.failures.last }
         ensures cause { HasDiskCause self.old.disk_faults self.new.disk_faults result }
         ensures tell_faults { self.new.tell_faults ≡ self.old.tell_faults }
         ensures changes { self.new.changes ≡ one_more self.old.changes }
+        ensures failed { S.shows → IsErrOf result DiskFailed → StopsSince (NotRenamed from.now to.now) self.new.keeper.folder.lost (S.calls self.old.keeper.folder.system) (S.calls self.new.keeper.folder.system) }
     {
         self.changes = self.changes.saturating_add(1);
         let done = self.keeper.rename(from, to);
@@ -246,11 +266,13 @@ impl<S: System + Drop, W: Output + Drop> Site for HostSite<S, W> {
         ensures sound { S.shows → StaysSound S.id (S.calls self.old.keeper.folder.system) self.old.keeper.folder.handles.open.items (S.calls self.new.keeper.folder.system) self.new.keeper.folder.handles.open.items }
         ensures stays_lost { IsTrue self.old.keeper.folder.lost → IsTrue self.new.keeper.folder.lost }
         ensures marked { S.shows → StaysMarked (S.calls self.old.keeper.folder.system) self.old.keeper.folder.lost (S.calls self.new.keeper.folder.system) self.new.keeper.folder.lost }
+        ensures reason { S.shows → StaysTrue (S.calls self.old.keeper.folder.system) self.old.keeper.folder.lost (S.calls self.new.keeper.folder.system) self.new.keeper.folder.lost }
         ensures output { self.new.output ≡ self.old.output }
         ensures kept { IsLast Asked.Remove name.now result self.old.keeper.failures.last self.new.keeper.failures.last }
         ensures cause { HasDiskCause self.old.disk_faults self.new.disk_faults result }
         ensures tell_faults { self.new.tell_faults ≡ self.old.tell_faults }
         ensures changes { self.new.changes ≡ one_more self.old.changes }
+        ensures failed { S.shows → IsErrOf result DiskFailed → StopsSince (NoFile name.now) self.new.keeper.folder.lost (S.calls self.old.keeper.folder.system) (S.calls self.new.keeper.folder.system) }
     {
         self.changes = self.changes.saturating_add(1);
         let done = self.keeper.remove(name);

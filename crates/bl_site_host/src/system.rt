@@ -1,14 +1,14 @@
 //! What a folder asks of the system. Each call is noted with its answer, where the system shows its calls.
-ghost use Rattle.std.specs.Prelude.{◌≡◌, ◌≤◌, ℕ, List, ◌∷◌, length, take, is_ok, IfOk, Option};
+ghost use Rattle.std.specs.Prelude.{◌≡◌, ◌≤◌, ℕ, List, ◌∷◌, length, take, is_ok, IfOk, MatchResult, Option};
 ghost use Rattle.std.specs.Option.{option_map};
 ghost use Rattle.bl_site.specs.Disk.{Name};
-ghost use Rattle.bl_site_host.specs.Events.{Event, Looked, Listing, Opened, Made, Read, Wrote, SyncedFile, SyncedFolder, Renamed, Removed, answer_of, Gives};
+ghost use Rattle.bl_site_host.specs.Events.{Event, Looked, Listing, ListingBroke, Opened, Made, Read, Wrote, SyncedFile, SyncedFolder, Renamed, Removed, answer_of, Gives};
 
 use std::alloc::Global;
 use std::io;
 
 /// What stands under a name.
-#[derive(Clone, Copy, Debug, PartialEq, Eq)]
+#[derive(Clone, Copy)]
 pub enum Found {
     /// No thing.
     Nothing,
@@ -94,5 +94,5 @@ pub trait System {
     /// The next entry. After a failure it is not known which entries are left.
     fn next(&mut self, alloc: Global, entries: &mut Self::Entries) -> io::Result<Listed>
         ensures gives { shows → IfOk result (λ entry. Gives entry (left entries.old) (left entries.new)) }
-        ensures calls { shows → calls self.new ≡ calls self.old };
+        ensures calls { shows → MatchResult result (λ _. calls self.new ≡ calls self.old) (λ _. calls self.new ≡ ListingBroke ∷ calls self.old) };
 }

@@ -1,12 +1,15 @@
 //! The adapters on the real folder, and writers and readers that are short or fail.
-ghost use Rattle.std.specs.Prelude.{IsTrue};
+ghost use Rattle.std.specs.Prelude.{◌≡◌, ◌<◌, ◌∷◌, IsTrue, map};
+ghost use Rattle.bl_site_host.specs.Knocks.{Opened, Locked};
+ghost use Rattle.bl_site_host.specs.declared.tests.Try.TheVariants as try;
 
 use crate::faults::{Fault, changed, counted, synced};
-use crate::guard::{Door, FolderLock, LockErr};
+use crate::guard::{Door, FolderLock, LockErr, Streams};
 use crate::moving::{read_full, write_whole};
 use crate::{HostSite, HostSource};
 use bl_site::{Site, SiteErr, Source, SourceErr};
 use std::io::{self, ErrorKind, Read, Write};
+use std::process::Abort;
 use std::test::Fail;
 
 fn failed(error: SiteErr) -> Fail {
@@ -133,32 +136,74 @@ fn a_source_gives_what_its_reader_gives(rt: HostRuntime) -> Result<(), Fail> {
     Ok(())
 }
 
-// A folder that another process has locked, or none.
+// Each call of a door, with what came of it.
 #[derive(Drop)]
-struct Room {
+enum Try {
+    Opened(Option<io::Error>),
+    Locked(Option<LockErr>),
+}
+
+// A door that opens or not, behind which another process has the folder or none. The newest call is the first.
+#[derive(Drop)]
+struct Room<R: Abort + AllocGlobal + Drop> {
+    rt: R,
+    opens: bool,
     taken: bool,
+    next: u32,
+    tries: Vec<Try>,
 }
 
 #[derive(Drop)]
 struct Latch {
     locked: bool,
+    place: u32,
 }
 
-impl Door for Room {
+impl<R: Abort + AllocGlobal + Drop> Door for Room<R> {
     type Folder = Latch;
 
     ghost shows = { Unit {0} };
 
+    ghost knocks = { λ room. map (elim [
+      | try.Opened error ↦ Opened error
+      | try.Locked error ↦ Locked error
+    ]) room.tries.items };
+
     ghost locked = { λ latch. IsTrue latch.locked };
 
-    fn open(&self) -> io::Result<Latch> {
-        Ok(Latch { locked: false })
+    ghost taken = { λ room place. place < room.next };
+
+    ghost place = { λ latch. latch.place };
+
+    fn place(&self, folder: &Latch) -> u32 {
+        folder.place
     }
 
-    fn lock(&self, folder: &mut Latch) -> Result<(), LockErr> {
+    fn open(&mut self) -> io::Result<Latch> {
+        let place = self.next;
+        let (true, Some(next)) = (self.opens, place.checked_add(1)) else {
+            let error = io::Error::from(ErrorKind::PermissionDenied);
+            let done = self.tries.insert(0, Try::Opened(Some(error)));
+            done.expect(&self.rt, "memory");
+            return Err(error);
+        };
+        let done = self.tries.insert(0, Try::Opened(None));
+        done.expect(&self.rt, "memory");
+        self.next = next;
+        Ok(Latch {
+            locked: false,
+            place,
+        })
+    }
+
+    fn lock(&mut self, folder: &mut Latch) -> Result<(), LockErr> {
         if self.taken {
+            let done = self.tries.insert(0, Try::Locked(Some(LockErr::Held)));
+            done.expect(&self.rt, "memory");
             return Err(LockErr::Held);
         }
+        let done = self.tries.insert(0, Try::Locked(None));
+        done.expect(&self.rt, "memory");
         folder.locked = true;
         Ok(())
     }
@@ -166,11 +211,46 @@ impl Door for Room {
 
 #[test]
 fn a_folder_is_locked_once(rt: HostRuntime) -> Result<(), Fail> {
-    let Ok(lock) = FolderLock::take(&Room { taken: false }) else {
+    let mut room = Room {
+        rt: rt.clone()?,
+        opens: true,
+        taken: false,
+        next: 3,
+        tries: Vec::new(rt.alloc()),
+    };
+    let Ok(lock) = FolderLock::take(&mut room) else {
         return Err(Fail::from("not locked"));
     };
     assert!(rt; lock.folder.locked);
-    assert!(rt; matches!(FolderLock::take(&Room { taken: true }), Err(LockErr::Held)));
+    assert_eq!(rt; room.tries.len(), 2);
+    room.taken = true;
+    let Err(error) = FolderLock::take(&mut room) else {
+        return Err(Fail::from("locked twice"));
+    };
+    let text = format!(in rt.alloc(); "{error}")?;
+    assert!(rt; text.starts_with("another process uses this folder"));
+    assert_eq!(rt; room.tries.len(), 4);
+    room.opens = false;
+    assert!(rt; matches!(FolderLock::take(&mut room), Err(LockErr::Failed(_))));
+    assert_eq!(rt; room.tries.len(), 5);
+    Ok(())
+}
+
+#[test]
+fn the_places_of_closed_streams_are_taken(rt: HostRuntime) -> Result<(), Fail> {
+    let mut room = Room {
+        rt: rt.clone()?,
+        opens: true,
+        taken: false,
+        next: 1,
+        tries: Vec::new(rt.alloc()),
+    };
+    let Ok(streams) = Streams::guard(&mut room) else {
+        return Err(Fail::from("not guarded"));
+    };
+    assert!(rt; matches!(streams.first, Some(Latch { place: 1, .. })));
+    assert!(rt; matches!(streams.second, Some(Latch { place: 2, .. })));
+    assert!(rt; streams.third.is_none());
     Ok(())
 }
 

@@ -9,7 +9,7 @@ use Rattle.bl_site_host.proofs.folder.Folder.append.Goals as goal
 pub returns-clause-bytes : goal.returns-clause-bytes
 returns-clause-bytes g c = λ shown sound.
     let place = at_some (IsPlaceOf c.args.name.now c.opened.new.self.handles.open.items) _ _ c.in-Some.is c.in_ok-at.ensures.place in
-    on_changed _ _ _ c.changed.ensures.answered (λ good. is_on c.args.name.now (λ file ok. Wrote file c.args.bytes.now ok) _ _ _ _ (c.append.ensures.calls shown)
+    on_changed _ _ _ c.changed.ensures.answered (λ good. is_on c.args.name.now (λ file ok. Wrote file c.args.bytes.now ok) _ _ _ _ _ (c.append.ensures.calls shown) (c.opened.ensures.grows shown)
     (stands_at g.S.System.id _ _ _ _ _ place c.index_mut-handle.ensures.value (c.opened.ensures.sound shown sound)) good)
 
 pub returns-clause-sound : goal.returns-clause-sound

@@ -1,6 +1,6 @@
 use Rattle.std.proofs.Common.{refl}
 use Rattle.bl_site_host.specs.Handles.{IsPlaceOf}
-use Rattle.bl_site_host.proofs.Sound.{at_some, sound_plain, sound_used, stands_at}
+use Rattle.bl_site_host.proofs.Sound.{at_some, more, sound_plain, sound_used, stands_at}
 use Rattle.bl_site_host.proofs.folder.Folder.read.Goals as goal
 
 pub returns-in_err-read-clause-sound : goal.returns-in_err-read-clause-sound
@@ -15,6 +15,7 @@ returns-clause-bytes g c = λ shown sound.
       file = _;
       older = _;
       newest = c.in_ok-read.ensures.calls shown;
+      since = more _ _ _ _ (c.in_ok-read.ensures.calls shown) (c.opened.ensures.grows shown);
       stands = stands_at g.S.System.id _ _ _ _ _ place c.index_mut.ensures.value (c.opened.ensures.sound shown sound);
     }
 
