@@ -84,7 +84,8 @@ all_differ v w =
     (then_differs (check_option 5 v.level0_trigger w.level0_trigger) _ (one_differs 5 v.level0_trigger w.level0_trigger)
     (then_differs (check_option 6 v.level_base w.level_base) _ (one_differs 6 v.level_base w.level_base)
     (then_differs (check_option 7 v.level_factor w.level_factor) _ (one_differs 7 v.level_factor w.level_factor)
-    (then_differs (check_option 8 v.age_cutoff w.age_cutoff) _ (one_differs 8 v.age_cutoff w.age_cutoff) (one_differs 9 v.force_threshold w.force_threshold))))))))
+    (then_differs (check_option 8 v.age_cutoff w.age_cutoff) _ (one_differs 8 v.age_cutoff w.age_cutoff)
+    (then_differs (check_option 9 v.force_threshold w.force_threshold) (Ok tt) (one_differs 9 v.force_threshold w.force_threshold) tt))))))))
 
 differ_of : (v : Values) (w : Words) (f : OpenErr) → check_options v w ≡ Err f → IsDiffer f
 differ_of v w f e = subst (λ (r : Result (Unit {0}) OpenErr). IfErr r IsDiffer) e (all_differ v w)

@@ -39,3 +39,5 @@ mod OpenedLemmas
 mod CountLemmas
 mod AddLemmas
 mod KeepLemmas
+mod OneMemory
+mod FullLemmas

@@ -1,6 +1,8 @@
 -- An opening as a whole.
-use Rattle.std.proofs.Common.{◌≡◌, ◌+◌, ◌<◌, inl, inr, ℕ, zero, suc, List, [], ◌∷◌, length, get_or, Option, None, Some, IsSome, Result, Ok, Err, refl, ◌∙◌, subst, arith}
-use Rattle.std.specs.Prelude.{IfErr, IfOk}
+use Rattle.std.proofs.Common.{◌≡◌, ◌⊎◌, ◌+◌, ◌<◌, ◌≤◌, nat_lt, inl, inr, ℕ, zero, suc, Bool, true, false, List, [], ◌∷◌, length, get_or, Option, None, Some, IsSome, Result, Ok, Err, refl, sym, ◌∙◌, subst, arith}
+use Rattle.std.specs.Prelude.{◌^◌, IfErr, IfOk}
+use Rattle.std.proofs.lemmas.Bool.{ltb-false, ltb-true}
+use Rattle.bl_site.specs.Calls.{LeavesOnly}
 use Rattle.std.specs.FinMap.{empty}
 use Rattle.std.specs.Option.{option_map}
 use Rattle.bl_site.specs.Disk.{Disk, File, Folder, Name, folder_of}
@@ -12,11 +14,11 @@ use Rattle.bl_folder.specs.Numbers.{IsFirstNumber}
 use Rattle.bl_folder.specs.Live.{IsFresh}
 use Rattle.bl_folder.specs.Stands.{Stands}
 use Rattle.bl_records.specs.Causes.{IsCause}
-use Rattle.bl_open.proofs.MomentLemmas.{CountsNow, OnlyNow, not_behind, then_behind, then_found}
+use Rattle.bl_open.proofs.MomentLemmas.{CountsNow, OnlyNow, none_found, not_behind, then_behind, then_found}
 use Rattle.bl_open.proofs.ReadLemmas.{nothing_side, nothing_then_side}
 use Rattle.bl_wal.specs.LogFile.{log_name}
-use Rattle.bl_open.specs.Barrier.{AreTheLogs, IsNewFile, MakesNothing}
-use Rattle.bl_open.specs.Beginning.{first_file}
+use Rattle.bl_open.specs.Barrier.{AreTheLogs, IsNewFile, LeavesFound, MakesNothing}
+use Rattle.bl_open.specs.Beginning.{first_file, first_made}
 use Rattle.bl_open.specs.Causes.{IsWriting}
 use Rattle.bl_open.specs.Checks.{AllPass}
 use Rattle.bl_open.specs.Listing.{AreLogs}
@@ -51,9 +53,29 @@ module _ {D : Type 0} (g : Ghosts D) (shown : g.shows) (only_now : (site : D) �
   }
 
 -- the first file has a number above those of all files
-pub first_is_new : (folder : Folder) (version : Listing) (next first : ℕ) (memory : List Entry) → IsFirstNumber folder version next first → IsNewFile folder (first_file memory first)
-first_is_new folder version next first [] is = record { number = first + 1; kind = inl refl; behind = λ f has some. let less = is.above.names f has some in omega (arith, less) }
-first_is_new folder version next first (e ∷ es) is = record { number = first + 2; kind = inr refl; behind = λ f has some. let less = is.above.names f has some in omega (arith, less) }
+first_is_new : (folder : Folder) (version : Listing) (next first : ℕ) (memory : List Entry) → IsFirstNumber folder version next first → first_made memory first < 10 ^ 15 → IsNewFile folder (first_file memory first)
+first_is_new folder version next first [] is less = record {
+  number = first + 1;
+  valid = (omega arith, less);
+  kind = inl refl;
+  behind = λ f has some. let lower = is.above.names f has some in omega (arith, lower);
+}
+first_is_new folder version next first (e ∷ es) is less = record {
+  number = first + 2;
+  valid = (omega arith, less);
+  kind = inr refl;
+  behind = λ f has some. let lower = is.above.names f has some in omega (arith, lower);
+}
+
+-- or it is none
+pub new_or_found : {D : Type 0} (g : Ghosts D) (folder : Folder) (version : Listing) (next first : ℕ) (memory : List Entry) (old new : D) → OnlyNow g old → IsFirstNumber folder version next first
+    → (10 ^ 15 ≤ first_made memory first → new ≡ old) → IsNewFile folder (first_file memory first) ⊎ LeavesOnly g.clock g.left_since old new (LeavesFound (g.may_be old) (g.told old))
+new_or_found {D} g folder version next first memory old new now is unmade = by (nat_lt (first_made memory first) (10 ^ 15)) refl
+  where
+    by : (b : Bool) → nat_lt (first_made memory first) (10 ^ 15) ≡ b → IsNewFile folder (first_file memory first) ⊎ LeavesOnly g.clock g.left_since old new (LeavesFound (g.may_be old) (g.told old))
+    by true e = inl (first_is_new folder version next first memory is (ltb-true (first_made memory first) (10 ^ 15) e))
+    by false e =
+        inr (subst (λ (site : D). LeavesOnly g.clock g.left_since old site (LeavesFound (g.may_be old) (g.told old))) (sym (unmade (ltb-false (first_made memory first) (10 ^ 15) e))) (none_found g old now))
 
 -- a version of no file passes
 pub nothing_passes : (folder : Folder) → AllPass folder nothing

@@ -1,11 +1,14 @@
 -- Why an opening is refused: one reason at most.
-use Rattle.std.proofs.Common.{◌≡◌, ◌⊎◌, inl, inr, ℕ, Result, Ok, Err, refl, sym, ◌∙◌, ap, subst}
+use Rattle.std.proofs.Common.{◌≡◌, ◌⊎◌, inl, inr, ℕ, List, Result, Ok, Err, refl, sym, ◌∙◌, ap, subst}
 use Rattle.bl_site.specs.Disk.{Folder, Name}
 use Rattle.bl_build.specs.Restoring.{Restored}
+use Rattle.bl_entry.specs.Batches.{Batch}
 use Rattle.bl_folder.specs.Laws.{LiveIsOne}
 use Rattle.bl_folder.specs.Live.{IsFresh, IsLive}
+use Rattle.bl_folder.specs.Logs.{HaveBatches}
+use Rattle.bl_open.specs.Checks.{AllPass}
 use Rattle.bl_open.specs.Damage.{IsDamaged}
-use Rattle.bl_open.specs.DamageLaws.{DamageIsOne, LackingAreNotFresh, LackingAreNotLive, PassingAreNotDamaged}
+use Rattle.bl_open.specs.DamageLaws.{DamageIsOne, FullAreNotRefused, LackingAreNotFresh, LackingAreNotLive, PassingAreNotDamaged}
 use Rattle.bl_open.specs.Options.{Words, check_options}
 use Rattle.bl_open.specs.Recovering.{AnswersAsRefused, AnswersOnly, HasLoaded, IsRefused, IsRefusal}
 use Rattle.bl_open.specs.declared.begin.Loaded.{Loaded}
@@ -57,16 +60,26 @@ fresh_not_refused law folder words (Corrupt name place) fresh (inl lacks) = law 
 fresh_not_refused law folder words (Corrupt name place) fresh (inr (m, (live, is, agree, fails))) = cc (fresh.current, is.current)
 fresh_not_refused law folder words (Differ option stored asked) fresh (m, (live, is, differs)) = cc (fresh.current, is.current)
 
--- nor is one that was loaded
+-- nor is one that passes all checks
+pub passed_not_refused : LiveIsOne → LackingAreNotLive → PassingAreNotDamaged → (folder : Folder) (words : Words) (manifest : ℕ) (live : Restored) (batches : List Batch) (last : ℕ) (e : OpenErr) → IsLive folder manifest live
+    → check_options live.standing.options words ≡ Ok tt → AllPass folder live.version → HaveBatches folder live.standing.log_number live.standing.last_sequence batches last → IsRefused folder words e → ⊥
+passed_not_refused one lacking passing folder words manifest live batches last Disk is agree pass have p = p
+passed_not_refused one lacking passing folder words manifest live batches last (Full next) is agree pass have p = p
+passed_not_refused one lacking passing folder words manifest live batches last OutOfMemory is agree pass have p = p
+passed_not_refused one lacking passing folder words manifest live batches last (Corrupt name place) is agree pass have p =
+    passing folder name place manifest live batches last is pass have (damaged_of folder words name place p)
+passed_not_refused one lacking passing folder words manifest live batches last (Differ option stored asked) is agree pass have (n, (other, is_too, differs)) =
+    differ_is (check_options other.standing.options words) tt (Differ option stored asked)
+    (ap (λ (r : Restored). check_options r.standing.options words) (one folder n manifest other live is_too is).1 ∙ agree) differs
+
 pub loaded_not_refused : LiveIsOne → LackingAreNotLive → PassingAreNotDamaged → (folder : Folder) (manifest : ℕ) (words : Words) (l : Loaded) (e : OpenErr) → HasLoaded folder manifest words l → IsRefused folder words e → ⊥
-loaded_not_refused one lacking passing folder manifest words l Disk h p = p
-loaded_not_refused one lacking passing folder manifest words l (Full next) h p = p
-loaded_not_refused one lacking passing folder manifest words l OutOfMemory h p = p
-loaded_not_refused one lacking passing folder manifest words l (Corrupt name place) h p =
-    passing folder name place manifest h.live h.logs.batches l.last h.is_live h.pass h.logs.have (damaged_of folder words name place p)
-loaded_not_refused one lacking passing folder manifest words l (Differ option stored asked) h (n, (live, is, differs)) =
-    differ_is (check_options live.standing.options words) tt (Differ option stored asked)
-    (ap (λ (r : Restored). check_options r.standing.options words) (one folder n manifest live h.live is h.is_live).1 ∙ h.agree) differs
+loaded_not_refused one lacking passing folder manifest words l e h p =
+    passed_not_refused one lacking passing folder words manifest h.live h.logs.batches l.last e h.is_live h.agree h.pass h.logs.have p
+
+pub full_not_refused : LackingAreNotFresh → LiveIsOne → LackingAreNotLive → PassingAreNotDamaged → FullAreNotRefused
+full_not_refused fresh one lacking passing folder words e (inl full) p = fresh_not_refused fresh folder words e full.fresh p
+full_not_refused fresh one lacking passing folder words e (inr full) p =
+    passed_not_refused one lacking passing folder words full.manifest full.live full.batches full.last e full.is_live full.agree full.pass full.have p
 
 -- what tells, where it is right, is due
 pub due_of : {T : Type 0} → DamageIsOne → LiveIsOne → LackingAreNotLive → (folder : Folder) (words : Words) (f : OpenErr) (result : Result T OpenErr) → result ≡ Err f → (IsRefusal f → IsRefused folder words f)

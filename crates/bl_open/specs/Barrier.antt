@@ -25,9 +25,10 @@ pub record LeavesFound (may_be : Disk → Type 0) (told : List ℕ) (c : Cut) : 
 abbrev pub IsBehindAll : Folder → ℕ → Type 0
 IsBehindAll folder number = (f : FileName) → HasNumber f → IsSome (file folder f) → number_of f < number
 
--- a log or a table whose number is above those of all files of the folder
+-- a log or a table, whose number is above those of all files of the folder
 pub record IsNewFile (folder : Folder) (name : Name) : Type 0 where
   pub number : ℕ
+  pub valid : IsNumber number
   pub kind : (name ≡ log_name number) ⊎ (name ≡ name_of (Table number))
   pub behind : IsBehindAll folder number
 

@@ -45,6 +45,11 @@ pub record StartsFrom (found : Found) (h : Holding) (m : Map) (l : Loaded) (disk
   pub options_are : h.live.standing.options ≡ l.options
   pub last_is : h.last ≡ l.last
 
+-- the number of the first file that an opening makes, behind the manifest's: that of its table, or that of its log where no entry was found
+abbrev pub first_made : List Entry → ℕ → ℕ
+first_made [] first = first + 1
+first_made (e ∷ es) first = first + 2
+
 -- the first file that an opening makes: its table, or its log where no entry was found
 abbrev pub first_file : List Entry → ℕ → Name
 first_file [] first = log_name (first + 1)

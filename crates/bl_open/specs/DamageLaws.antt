@@ -15,7 +15,7 @@ use Rattle.bl_open.specs.Checks.{AllPass, FilesFail}
 use Rattle.bl_open.specs.Damage.{IsDamaged, LacksLive}
 use Rattle.bl_open.specs.Listing.{IsGreatest}
 use Rattle.bl_open.specs.Options.{Words}
-use Rattle.bl_open.specs.Recovering.{IsRefused}
+use Rattle.bl_open.specs.Recovering.{IsFull, IsRefused}
 use Rattle.bl_open.specs.declared.error.OpenErr.{OpenErr}
 use Rattle.bl_open.specs.declared.error.OpenErr.TheVariants.{Corrupt}
 
@@ -58,6 +58,10 @@ RefusalIsOne = (folder : Folder) (words : Words) (e f : OpenErr) → IsRefused f
 -- and no damage refuses that of a sound folder.
 abbrev pub SoundAreNotRefused : Type 0
 SoundAreNotRefused = (folder : Folder) (words : Words) (name : Name) (place : ℕ) → IsSoundFolder folder → IsRefused folder words (Corrupt name place) → ⊥
+
+-- A folder that would take more numbers than are left is not refused.
+abbrev pub FullAreNotRefused : Type 0
+FullAreNotRefused = (folder : Folder) (words : Words) (e : OpenErr) → IsFull folder words → IsRefused folder words e → ⊥
 
 -- Where all files of a version pass, the first number that an opening may take is the next file number, or one more than the greatest number of a name.
 abbrev pub FirstNumberIs : Type 0

@@ -1,5 +1,5 @@
 -- The words that are given for a store's options.
-use Rattle.std.specs.Prelude.{ℕ, ◌^◌, ◌==◌, Option, None, Some, IfSome, unwrap_or, Result, Ok}
+use Rattle.std.specs.Prelude.{ℕ, ◌+◌, ◌^◌, ◌==◌, List, [], ◌∷◌, Option, None, Some, IfSome, unwrap_or, Result, Ok}
 use Rattle.bl_code.specs.Reading.{need, ◌>>=◌}
 use Rattle.bl_edit.specs.Options.{IsBetween, Values, max_size}
 use Rattle.bl_open.specs.declared.error.OpenErr.{OpenErr}
@@ -62,15 +62,25 @@ abbrev pub check_option : ℕ → ℕ → Option ℕ → Result (Unit {0}) OpenE
 check_option option stored None = Ok tt
 check_option option stored (Some asked) = need (asked == stored) (Differ option stored asked)
 
--- Each given word is the stored value, since no option of a store changes; else the first that is not, in the order of the options.
+-- the options in their order, each by its stored value and the word that is given for it
+abbrev pub in_order : Values → Words → List (ℕ × Option ℕ)
+in_order v w =
+    (v.min_blob_size, w.min_blob_size)
+    ∷ (v.blob_file_size, w.blob_file_size)
+    ∷ (v.write_buffer, w.write_buffer)
+    ∷ (v.table_size, w.table_size)
+    ∷ (v.level0_trigger, w.level0_trigger)
+    ∷ (v.level_base, w.level_base)
+    ∷ (v.level_factor, w.level_factor)
+    ∷ (v.age_cutoff, w.age_cutoff)
+    ∷ (v.force_threshold, w.force_threshold)
+    ∷ []
+
+-- some options, of which the first has this number: each passes, or else the first that does not is told
+abbrev pub check_from : ℕ → List (ℕ × Option ℕ) → Result (Unit {0}) OpenErr
+check_from option [] = Ok tt
+check_from option ((stored, asked) ∷ more) = check_option option stored asked >>= λ passed. check_from (option + 1) more
+
+-- Each given word is the stored value, since no option of a store changes; else the first that is not.
 unfoldable pub check_options : Values → Words → Result (Unit {0}) OpenErr
-check_options v w = do
-  _ ← check_option 1 v.min_blob_size w.min_blob_size
-  _ ← check_option 2 v.blob_file_size w.blob_file_size
-  _ ← check_option 3 v.write_buffer w.write_buffer
-  _ ← check_option 4 v.table_size w.table_size
-  _ ← check_option 5 v.level0_trigger w.level0_trigger
-  _ ← check_option 6 v.level_base w.level_base
-  _ ← check_option 7 v.level_factor w.level_factor
-  _ ← check_option 8 v.age_cutoff w.age_cutoff
-  check_option 9 v.force_threshold w.force_threshold
+check_options v w = check_from 1 (in_order v w)

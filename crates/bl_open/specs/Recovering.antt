@@ -1,5 +1,5 @@
 -- What an opening reads of a folder, and what it answers.
-use Rattle.std.specs.Prelude.{◌≡◌, ◌⊎◌, ℕ, ◌+◌, List, Result, Ok, Err}
+use Rattle.std.specs.Prelude.{◌≡◌, ◌⊎◌, ℕ, ◌+◌, ◌^◌, ◌<◌, List, [], Result, Ok, Err}
 use Rattle.bl_site.specs.Disk.{Folder, Name, folder_of}
 use Rattle.bl_site.specs.Calls.{LeavesOnly}
 use Rattle.bl_site.specs.declared.site.Site.{Ghosts}
@@ -9,6 +9,7 @@ use Rattle.bl_entry.specs.Batches.{Batch}
 use Rattle.bl_entry.specs.declared.key.Entry.{Entry}
 use Rattle.bl_edit.specs.Options.{Values}
 use Rattle.bl_build.specs.Listing.{nothing}
+use Rattle.bl_flush.specs.Jobs.{next_of}
 use Rattle.bl_folder.specs.Live.{IsFresh, IsLive}
 use Rattle.bl_folder.specs.Logs.{HaveBatches}
 use Rattle.bl_folder.specs.Numbers.{IsFirstNumber}
@@ -88,6 +89,35 @@ pub record TakesLive (folder : Folder) (o : Opened) : Type 0 where
 
 abbrev pub TakesOver : Folder → Words → Opened → Type 0
 TakesOver folder words o = TakesFresh folder (given_or defaults words) o ⊎ TakesLive folder o
+
+-- ---- numbers
+
+-- The folder is fresh. From its first number on, a manifest and a log would take one number each, and not both are numbers of files.
+pub record IsFullFresh (folder : Folder) : Type 0 where
+  pub fresh : IsFresh folder
+  pub first : ℕ
+  pub is_first : IsFirstNumber folder nothing 1 first
+  pub past : 10 ^ 15 < first + 2
+
+-- The folder passes all checks with these words. From its first number on, a manifest, a log and the files of a flush of what the needed logs hold would take one number each, and not all are numbers of files.
+pub record IsFullLive (folder : Folder) (words : Words) : Type 0 where
+  pub manifest : ℕ
+  pub live : Restored
+  pub is_live : IsLive folder manifest live
+  pub agree : check_options live.standing.options words ≡ Ok tt
+  pub pass : AllPass folder live.version
+  pub batches : List Batch
+  pub last : ℕ
+  pub have : HaveBatches folder live.standing.log_number live.standing.last_sequence batches last
+  pub memory : List Entry
+  pub memory_of : IsMemoryOf batches memory
+  pub first : ℕ
+  pub is_first : IsFirstNumber folder live.version live.standing.next_file first
+  pub past : 10 ^ 15 < next_of live.standing.options [] (first + 2) memory
+
+-- an opening with these words would make more files than there are numbers left
+abbrev pub IsFull : Folder → Words → Type 0
+IsFull folder words = IsFullFresh folder ⊎ IsFullLive folder words
 
 -- There is a first file of the opening, a new one, unless a cut leaves only what one before the opening might have left. A cut leaves that, but that this file may be there, empty; or it leaves the map. Where no name call was in doubt, one that finds a file which was not there leaves the map.
 pub record CutsAtBarrier {S : Type 0} (g : Ghosts S) (m : Map) (old new : S) : Type 0 where

@@ -1,6 +1,6 @@
 //! How an opening begins a store on what it has read.
 
-ghost use Rattle.std.specs.Prelude.{◌≡◌, ℕ, ◌^◌, ◌<◌, ◌≤◌, [], ◌∷◌, false, Err, IfOk, IfErr, Ok, OnOk, IsErrOf};
+ghost use Rattle.std.specs.Prelude.{◌≡◌, ℕ, ◌+◌, ◌^◌, ◌<◌, ◌≤◌, [], ◌∷◌, false, Err, IfOk, IfErr, Ok, OnOk, IsErrOf};
 ghost use Rattle.bl_site.specs.Calls.{LeavesOnly};
 ghost use Rattle.bl_site.specs.Causes.{Rose};
 ghost use Rattle.bl_site.specs.Disk.{Name};
@@ -9,6 +9,7 @@ ghost use Rattle.bl_entry.specs.Revisions.{Map};
 ghost use Rattle.bl_edit.specs.Bounds.{IsEdit};
 ghost use Rattle.bl_build.specs.Snapshots.{snapshot};
 ghost use Rattle.bl_build.specs.Versions.{IsVersion, apply};
+ghost use Rattle.bl_flush.specs.Jobs.{next_of};
 ghost use Rattle.bl_wal.specs.Held.{HoldsBatches};
 ghost use Rattle.bl_wal.specs.LogFile.{log_name, new_log};
 ghost use Rattle.bl_names.specs.declared.name.FileName.TheVariants.{Current, Manifest as ManifestName, Temp};
@@ -18,7 +19,7 @@ ghost use Rattle.bl_folder.specs.Flushes.{IsBelow};
 ghost use Rattle.bl_folder.specs.Holding.{Holding};
 ghost use Rattle.bl_folder.specs.Settled.{IsSettled};
 ghost use Rattle.bl_open.specs.Barrier.{IsOnEitherSide};
-ghost use Rattle.bl_open.specs.Beginning.{AddsFlush, IsBounded, IsInPlace, IsNumbered, IsOpened, StartsFrom, first_file};
+ghost use Rattle.bl_open.specs.Beginning.{AddsFlush, IsBounded, IsInPlace, IsNumbered, IsOpened, StartsFrom, first_file, first_made};
 ghost use Rattle.bl_open.specs.Causes.{FailsByFolder, IsWriting};
 ghost use Rattle.bl_open.specs.Found.{Found, HasTables, IsSpareFor, RestsAs};
 ghost use Rattle.bl_open.specs.Installations.{IsInstalled};
@@ -124,13 +125,14 @@ fn start_store<S: Site>(
 
 /// Begins a store on what was loaded: draws a number for the manifest and the next one for the log, flushes the memory, makes the log
 /// and installs the version, so that no batch is left in a needed log. From a disk that rests as what was found a cut
-/// leaves its map, whatever is answered; before the first file is made it leaves what one before might have left. At `Ok` the disk is steady.
+/// leaves its map, whatever is answered; before the first file is made it leaves what one before might have left; where no number is left for that file, the folder is not asked. At `Ok` the disk is steady.
 ///
-/// Errors: `Disk`; `Full(10^15)`, where no number is left; `OutOfMemory`.
+/// Errors: `Disk`; `Full(10^15)`, only where the manifest, the log and the files of the flush take more numbers than are left; `OutOfMemory`.
 pub(crate) fn begin<S: Site>(alloc: Global, site: &mut S, loaded: Loaded) -> Result<Opened, OpenErr>
     requires bounded { IsBounded loaded }
     requires below { S.shows → IsBelow loaded.first loaded.version }
     ensures numbered { IfOk result (IsNumbered loaded) }
+    ensures unmade { 10 ^ 15 ≤ first_made loaded.memory loaded.first → site.new ≡ site.old }
     ensures keeps { S.shows → KeepsBefore loaded.first (S.disk site.old) (S.disk site.new) }
     ensures adds { S.shows → IfOk result (AddsFlush loaded.version loaded.memory) }
     ensures in_place { S.shows → IfOk result (λ o. IsInPlace o (S.disk site.new)) }
@@ -141,7 +143,7 @@ pub(crate) fn begin<S: Site>(alloc: Global, site: &mut S, loaded: Loaded) -> Res
         → LeavesOnly S.clock S.left_since site.old site.new (LeavesStanding m (S.told site.old)) }
     ensures settled { S.shows → (found : Found) (h : Holding) (m : Map) → StartsFrom found h m loaded (S.disk site.old) → IsSettled (S.disk site.new) }
     ensures certain { S.shows → OnOk result (S.certain site.new) }
-    ensures full { (n : ℕ) → result ≡ Err (OpenErr.Full n) → n ≡ 10 ^ 15 }
+    ensures full { (n : ℕ) → result ≡ Err (OpenErr.Full n) → (n ≡ 10 ^ 15) × (10 ^ 15 < next_of loaded.options [] (loaded.first + 2) loaded.memory) }
     ensures tells_nothing { TellsNothing S.Site site.old site.new }
     ensures causes { IfErr result IsWriting }
     ensures disk { IsErrOf result OpenErr.Disk → Rose (S.disk_faults site.old) (S.disk_faults site.new) }

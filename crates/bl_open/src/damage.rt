@@ -1,6 +1,6 @@
 //! What holds of damage: a caller that needs one of these calls it.
 
-ghost use Rattle.bl_open.specs.DamageLaws.{DamageIsOne, FailingDoNotPass, FailureIsOne, FirstNumberIs, FreshAreNotDamaged, LackingAreNotFresh, LackingAreNotLive, PassingAreNotDamaged, RefusalIsOne, SoundAreNotDamaged, SoundAreNotRefused};
+ghost use Rattle.bl_open.specs.DamageLaws.{DamageIsOne, FailingDoNotPass, FailureIsOne, FirstNumberIs, FreshAreNotDamaged, FullAreNotRefused, LackingAreNotFresh, LackingAreNotLive, PassingAreNotDamaged, RefusalIsOne, SoundAreNotDamaged, SoundAreNotRefused};
 
 use bl_entry::batches_join;
 use bl_folder::{folders_stand_for_one_map, live_parts_have_a_version};
@@ -42,10 +42,12 @@ pub fn damage_is_one()
     text_names_one();
 }
 
-/// One reason at most refuses an opening with some words, and no damage refuses that of a sound folder.
+/// One reason at most refuses an opening with some words. No damage refuses that of a sound folder, and nothing that of a folder which would take
+/// more numbers than are left.
 pub fn refusals_are_one()
     ensures one { RefusalIsOne }
     ensures sound { SoundAreNotRefused }
+    ensures full { FullAreNotRefused }
 {
     damage_is_one();
     folders_stand_for_one_map();

@@ -11,7 +11,7 @@ ghost use Rattle.bl_edit.specs.Bounds.{FitsWords, IsEdit};
 ghost use Rattle.bl_build.specs.Restoring.{Restored};
 ghost use Rattle.bl_out.specs.Quiet.{TouchesOnly};
 ghost use Rattle.bl_flush.specs.Flushing.{Flushes};
-ghost use Rattle.bl_flush.specs.Jobs.{ArePutsAndDeletions};
+ghost use Rattle.bl_flush.specs.Jobs.{ArePutsAndDeletions, next_of};
 ghost use Rattle.bl_folder.specs.Flushes.{IsBelow};
 ghost use Rattle.bl_open.specs.Barrier.{BeforeBarrier, IsOnEitherSide};
 ghost use Rattle.bl_open.specs.Causes.{FailsByFolder, IsWriting};
@@ -25,8 +25,9 @@ use crate::flushing::drawn_files_let_disks_rest;
 use crate::install::show_range;
 use crate::laws::barriers_let_disks_rest;
 use bl_edit::{Edit, Options};
+use bl_entry::newest_stands_first;
 use bl_flush::{flush_all, flushes_make_what_is_kept};
-use bl_memtab::MemTable;
+use bl_memtab::{MemTable, ascends};
 use bl_names::{FILE_LIMIT, FileName, print_name};
 use bl_out::Numbers;
 use bl_site::Site;
@@ -59,7 +60,7 @@ fn flush_memory<S: Site>(
     ensures draws { IfOk result (DrawsFor options.now memory.now numbers.old numbers.new) }
     ensures upwards { numbers.old ≤ numbers.new }
     ensures most { numbers.new ≤ 10 ^ 15 }
-    ensures full { (n : ℕ) → result ≡ Err (OpenErr.Full n) → (n ≡ 10 ^ 15) × (numbers.new ≡ 10 ^ 15) }
+    ensures full { (n : ℕ) → result ≡ Err (OpenErr.Full n) → (n ≡ 10 ^ 15) × (10 ^ 15 < next_of options.now [] numbers.old memory.now) }
     ensures certain { S.shows → S.certain site.old → OnOk result (S.certain site.new) }
     ensures touches { TouchesOnly S.Site (drawn numbers.old numbers.new) site.old site.new }
     ensures tells_nothing { TellsNothing S.Site site.old site.new }
@@ -76,10 +77,10 @@ fn flush_memory<S: Site>(
 
 /// Flushes a memory of proper puts and deletions: what is kept of it goes into a table and its blob files, which are synced. The table is
 /// made first, and with it the barrier of the opening is over, so that no name call is in doubt while the files are written. An empty
-/// memory asks nothing of the folder. Only tables and blob files with numbers from the next one on change: while the version has lower ones, a disk at
+/// memory asks nothing of the folder, and so does one where no number is left. Only tables and blob files with numbers from the next one on change: while the version has lower ones, a disk at
 /// rest stays so, whatever is answered.
 ///
-/// Errors: `Disk`; `Full(10^15)`, where no number is left; `OutOfMemory`.
+/// Errors: `Disk`; `Full(10^15)`, only where the files take more numbers than are left; `OutOfMemory`.
 pub(crate) fn flush_found<S: Site>(
     alloc: Global,
     site: &mut S,
@@ -92,9 +93,10 @@ pub(crate) fn flush_found<S: Site>(
     ensures bounds { IfOk result (λ edit. IsEdit edit × FitsWords edit) }
     ensures draws { IfOk result (DrawsFor options.now memory.now numbers.old numbers.new) }
     ensures upwards { numbers.old ≤ numbers.new }
-    ensures full { (n : ℕ) → result ≡ Err (OpenErr.Full n) → (n ≡ 10 ^ 15) × (numbers.new ≡ 10 ^ 15) }
+    ensures full { (n : ℕ) → result ≡ Err (OpenErr.Full n) → (n ≡ 10 ^ 15) × (10 ^ 15 < next_of options.now [] numbers.old memory.now) }
     ensures others { S.shows → KeepsOthers numbers.old (S.disk site.old) (S.disk site.new) }
     ensures idle { memory.now ≡ [] → site.new ≡ site.old }
+    ensures unmade { numbers.old ≡ 10 ^ 15 → (site.new ≡ site.old) × OnOk result (memory.now ≡ []) }
     ensures passed { S.shows → 1 ≤ length memory.now → OnOk result (S.certain site.new) }
     ensures sides { S.shows → (manifest : ℕ) (live : Restored) (m : Map) → IsAtRest manifest live m (S.disk site.old) → IsBelow numbers.old live.version
         → LeavesOnly S.clock S.left_since site.old site.new (IsOnEitherSide (name_of (Table numbers.old)) (S.may_be site.old) m (S.told site.old)) }
@@ -104,8 +106,10 @@ pub(crate) fn flush_found<S: Site>(
     ensures causes { IfErr result IsWriting }
     ensures disk { IsErrOf result OpenErr.Disk → Rose (S.disk_faults site.old) (S.disk_faults site.new) }
 {
+    ascends(memory);
     barriers_let_disks_rest();
     drawn_files_let_disks_rest();
+    newest_stands_first();
     if memory.count() == 0 {
         return Ok(Edit::new(alloc));
     }

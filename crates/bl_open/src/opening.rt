@@ -19,7 +19,7 @@ ghost use Rattle.bl_open.specs.Causes.{IsWriting};
 ghost use Rattle.bl_open.specs.Damage.{NamesManifest};
 ghost use Rattle.bl_open.specs.Keeping.{KeepsFound};
 ghost use Rattle.bl_open.specs.Listing.{AreListed, AreLogs};
-ghost use Rattle.bl_open.specs.Recovering.{AnswersAsRefused, CutsAtBarrier, HasLoaded, IsRefusal, TakesFresh, TakesOver};
+ghost use Rattle.bl_open.specs.Recovering.{AnswersAsRefused, CutsAtBarrier, HasLoaded, IsFull, IsFullFresh, IsRefusal, TakesFresh, TakesOver};
 ghost use Rattle.bl_open.specs.Replaying.{AreLogsFrom};
 ghost use Rattle.bl_open.specs.Steady.{Maps};
 
@@ -62,7 +62,8 @@ fn create_among<S: Site>(
     ensures cuts { S.shows → IsSettled (S.disk site.old) → CutsAtBarrier S.Site empty site.old site.new }
     ensures settled { S.shows → IsSettled (S.disk site.old) → IsSettled (S.disk site.new) }
     ensures certain { S.shows → OnOk result (S.certain site.new) }
-    ensures full { (n : ℕ) → result ≡ Err (OpenErr.Full n) → n ≡ 10 ^ 15 }
+    ensures full { (n : ℕ) → result ≡ Err (OpenErr.Full n) → (n ≡ 10 ^ 15) × (S.shows → IsFullFresh (folder_of (S.disk site.old))) }
+    ensures enough { S.shows → OnOk result (IsFullFresh (folder_of (S.disk site.old)) → ⊥) }
     ensures tells_nothing { TellsNothing S.Site site.old site.new }
     ensures causes { IfErr result IsWriting }
     ensures disk { IsErrOf result OpenErr.Disk → Rose (S.disk_faults site.old) (S.disk_faults site.new) }
@@ -87,7 +88,8 @@ fn create_among<S: Site>(
 /// is listed once. From a settled disk, a cut meanwhile leaves what one before might have left, but that one file may be there, empty, or a folder that
 /// stands for the empty map; at `Ok` the disk is steady. A settled disk stays settled, and at `Ok` no name call is in doubt.
 ///
-/// Errors: `Disk`; `Full(10^15)`, where the numbers are used up; `OutOfMemory`.
+/// Errors: `Disk`; `Full(10^15)`, exactly where the manifest and the log would take more numbers than are left from the first number on and neither
+/// `Disk` nor `OutOfMemory` is answered; `OutOfMemory`.
 pub fn create<S: Site>(alloc: Global, site: &mut S, options: &Options) -> Result<Opened, OpenErr>
     requires { S.shows → IsFresh (folder_of (S.disk site.old)) }
     ensures takes { S.shows → IfOk result (TakesFresh (folder_of (S.disk site.old)) options.now) }
@@ -98,7 +100,8 @@ pub fn create<S: Site>(alloc: Global, site: &mut S, options: &Options) -> Result
     ensures cuts { S.shows → IsSettled (S.disk site.old) → CutsAtBarrier S.Site empty site.old site.new }
     ensures settled { S.shows → IsSettled (S.disk site.old) → IsSettled (S.disk site.new) }
     ensures certain { S.shows → OnOk result (S.certain site.new) }
-    ensures full { (n : ℕ) → result ≡ Err (OpenErr.Full n) → n ≡ 10 ^ 15 }
+    ensures full { (n : ℕ) → result ≡ Err (OpenErr.Full n) → (n ≡ 10 ^ 15) × (S.shows → IsFullFresh (folder_of (S.disk site.old))) }
+    ensures enough { S.shows → OnOk result (IsFullFresh (folder_of (S.disk site.old)) → ⊥) }
     ensures tells_nothing { TellsNothing S.Site site.old site.new }
     ensures causes { IfErr result IsWriting }
     ensures disk { IsErrOf result OpenErr.Disk → Rose (S.disk_faults site.old) (S.disk_faults site.new) }
@@ -181,7 +184,8 @@ fn recover_live<S: Site>(
     ensures certain { S.shows → OnOk result (S.certain site.new) }
     ensures answers { S.shows → AnswersAsRefused (folder_of (S.disk site.old)) asked.now result }
     ensures same { S.shows → IfErr result (λ e. IsRefusal e → folder_of (S.disk site.new) ≡ folder_of (S.disk site.old)) }
-    ensures full { (n : ℕ) → result ≡ Err (OpenErr.Full n) → n ≡ 10 ^ 15 }
+    ensures full { (n : ℕ) → result ≡ Err (OpenErr.Full n) → (n ≡ 10 ^ 15) × (S.shows → IsFull (folder_of (S.disk site.old)) asked.now) }
+    ensures enough { S.shows → OnOk result (IsFull (folder_of (S.disk site.old)) asked.now → ⊥) }
     ensures tells_nothing { TellsNothing S.Site site.old site.new }
     ensures disk { IsErrOf result OpenErr.Disk → Rose (S.disk_faults site.old) (S.disk_faults site.new) }
 {
@@ -206,9 +210,10 @@ fn recover_live<S: Site>(
 /// From a settled disk whose folder stands for a map, a cut meanwhile leaves what one before might have left, but that one file may be there, empty,
 /// or a folder that stands for this map; at `Ok` the disk is steady for it, and no name call is in doubt. Nothing is told.
 ///
-/// Errors: `Corrupt` with the first damaged name and place, and `Differ` at the first option whose word is not the stored value, each exactly where that
-/// comes first and neither `Disk` nor `OutOfMemory` is answered: CURRENT and its manifest, then the words, then tables, blob files and logs; the folder reads as before. `Disk`; `Full(10^15)`, where the numbers are
-/// used up; `OutOfMemory`.
+/// Errors, the first three exactly where neither `Disk` nor `OutOfMemory` is answered: `Corrupt` with the first damaged name and place, and `Differ` at
+/// the first option whose word is not the stored value, each where that comes first: CURRENT and its manifest, then the words, then tables, blob files
+/// and logs; the folder reads as before. `Full(10^15)`, where all this passes, and the manifest, the log and the files of the flush would take more
+/// numbers than are left from the first number on. `Disk`; `OutOfMemory`.
 pub fn recover<S: Site>(alloc: Global, site: &mut S, asked: &Asked) -> Result<Opened, OpenErr>
     ensures takes { S.shows → IfOk result (TakesOver (folder_of (S.disk site.old)) asked.now) }
     ensures within { IfOk result IsWithin }
@@ -220,7 +225,8 @@ pub fn recover<S: Site>(alloc: Global, site: &mut S, asked: &Asked) -> Result<Op
     ensures certain { S.shows → OnOk result (S.certain site.new) }
     ensures answers { S.shows → AnswersAsRefused (folder_of (S.disk site.old)) asked.now result }
     ensures same { S.shows → IfErr result (λ e. IsRefusal e → folder_of (S.disk site.new) ≡ folder_of (S.disk site.old)) }
-    ensures full { (n : ℕ) → result ≡ Err (OpenErr.Full n) → n ≡ 10 ^ 15 }
+    ensures full { (n : ℕ) → result ≡ Err (OpenErr.Full n) → (n ≡ 10 ^ 15) × (S.shows → IsFull (folder_of (S.disk site.old)) asked.now) }
+    ensures enough { S.shows → OnOk result (IsFull (folder_of (S.disk site.old)) asked.now → ⊥) }
     ensures tells_nothing { TellsNothing S.Site site.old site.new }
     ensures disk { IsErrOf result OpenErr.Disk → Rose (S.disk_faults site.old) (S.disk_faults site.new) }
 {

@@ -1,6 +1,11 @@
 use Rattle.std.proofs.Common.{[], ◌≡◌, ◌+◌, ◌∙◌, ◌≤◌, ℕ, ap, sym, subst, arith, refl}
 use Rattle.std.specs.Prelude.{◌^◌}
 use Rattle.bl_open.proofs.AddLemmas.{adds_flush, are_numbered}
+use Rattle.std.proofs.lemmas.Result.{err_from_is_err_and}
+use Rattle.bl_out.specs.declared.error.JobErr.TheVariants.{Full as JobFull}
+use Rattle.bl_open.specs.Causes.{of_job}
+use Rattle.bl_open.specs.declared.error.OpenErr.TheVariants.{Full}
+use Rattle.bl_open.proofs.FullLemmas.{wanted_up}
 use Rattle.bl_open.proofs.KeepLemmas.{flush_keeps, store_keeps, then_keeps}
 use Rattle.bl_open.proofs.LoadedLemmas.{after, flush_cuts, flush_sides, live_after, manifest_spare, no_cuts, no_settled, no_sides, rests_now, settled_now, store_cuts, store_sides, tables_after}
 use Rattle.bl_open.specs.Beginning.{first_file}
@@ -358,3 +363,21 @@ returns-clause-numbered g c =
       options = refl;
       last = refl;
     }
+
+pub returns-in_err-manifest-clause-full : goal.returns-in_err-manifest-clause-full
+returns-in_err-manifest-clause-full g c = λ n is.
+    let l = c.args.loaded in
+    let p = err_from_is_err_and c.from_residual.result c.from_residual.ensures.1 in
+    let full : c.in_err-manifest.field-0.0 ≡ JobFull (10 ^ 15) = cc c.in_err-manifest.ensures.full.0 in
+    let told : p.0 ≡ Full (10 ^ 15) = p.2 ∙ ap of_job full in
+    let up = wanted_up l.options (l.first + 2) l.memory in
+    (cc (p.1, is, told), omega (arith, up, c.in_err-manifest.ensures.full.1, c.from-numbers.ensures))
+
+pub returns-in_err-log-clause-full : goal.returns-in_err-log-clause-full
+returns-in_err-log-clause-full g c = λ n is.
+    let l = c.args.loaded in
+    let p = err_from_is_err_and c.from_residual-in_err-log.result c.from_residual-in_err-log.ensures.1 in
+    let full : c.in_err-log.field-0.0 ≡ JobFull (10 ^ 15) = cc c.in_err-log.ensures.full.0 in
+    let told : p.0 ≡ Full (10 ^ 15) = p.2 ∙ ap of_job full in
+    let up = wanted_up l.options (l.first + 2) l.memory in
+    (cc (p.1, is, told), omega (arith, up, c.in_err-log.ensures.full.1, c.in_ok-manifest.ensures.drawn.2, c.from-numbers.ensures))

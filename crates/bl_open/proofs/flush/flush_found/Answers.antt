@@ -6,6 +6,7 @@ use Rattle.bl_names.specs.declared.name.FileName.TheVariants.{Table}
 use Rattle.bl_names.specs.Names.{name_of}
 use Rattle.bl_edit.specs.declared.edit.Edit.{Edit}
 use Rattle.bl_flush.specs.Flushing.{Flushes}
+use Rattle.bl_open.proofs.FullLemmas.{some_wanted}
 use Rattle.bl_open.proofs.MomentLemmas.{all_before, none_found, rest_start}
 use Rattle.bl_open.proofs.TableLemmas.{all_cuts, all_sides, first_cuts, no_flush, others_stay}
 use Rattle.bl_open.specs.Barrier.{BeforeBarrier, IsOnEitherSide}
@@ -76,3 +77,10 @@ returns-clause-sides g c = λ shown manifest live m rest below.
     let some : 1 ≤ c.args.numbers.now = omega (arith, c.next.ensures.value, c.next.ensures.some) in
     all_sides g.S.Site laws.rest laws.cuts c.args.numbers.now some less c.args.site.now c.make_table.new.site manifest live m c.make_table.ensures.touches shown rest below
     c.flush_memory.new.site c.flush_memory.new.numbers c.flush_memory.ensures.most (c.make_table.ensures.tells_nothing.told shown) (c.in_ok-make_table.ensures.certain shown) c.flush_memory.ensures.touches (c.make_table.ensures.before shown)
+
+pub returns-then-next-eq-FILE_LIMIT-clause-full : goal.returns-then-next-eq-FILE_LIMIT-clause-full
+returns-then-next-eq-FILE_LIMIT-clause-full g c = λ n is.
+    let same : 1000000000000000 ≡ n = cc is in
+    let some : 1 ≤ length c.args.memory.now = omega (arith, c.count.ensures, c.if-count-eq0.false) in
+    let wanted = some_wanted c.newest_stands_first.ensures c.args.options.now c.args.numbers.now c.args.memory.now c.ascends.ensures.ascending some in
+    (omega (arith, same), omega (arith, wanted, c.next.ensures.value, c.if-next-eq-FILE_LIMIT.true))

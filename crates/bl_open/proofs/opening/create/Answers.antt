@@ -1,12 +1,12 @@
 use Rattle.std.proofs.Common.{◌≡◌, ap, sym, subst}
 use Rattle.std.specs.FinMap.{empty}
-use Rattle.std.specs.Prelude.{IfOk}
+use Rattle.std.specs.Prelude.{IfOk, OnOk}
 use Rattle.bl_site.specs.Disk.{Folder, folder_of}
 use Rattle.bl_folder.specs.Settled.{IsSettled}
 use Rattle.bl_open.proofs.KeepLemmas.{kept_before, same_kept}
 use Rattle.bl_open.proofs.OpenedLemmas.{nothing_cuts, then_cuts}
 use Rattle.bl_open.proofs.ReadLemmas.{reads_make_nothing}
-use Rattle.bl_open.specs.Recovering.{TakesFresh}
+use Rattle.bl_open.specs.Recovering.{IsFullFresh, TakesFresh}
 use Rattle.bl_open.proofs.opening.create.Goals as goal
 
 pub returns-in_err-files-clause-cuts : goal.returns-in_err-files-clause-cuts
@@ -44,3 +44,12 @@ returns-in_err-files-clause-keeps g c = λ shown. same_kept _ (g.S.Site.disk c.a
 pub returns-clause-keeps : goal.returns-clause-keeps
 returns-clause-keeps g c = λ shown.
     kept_before c.create_among.result (g.S.Site.disk c.args.site.now) (g.S.Site.disk c.list_files.new.site) (g.S.Site.disk c.create_among.new.site) (c.list_files.ensures.quiet.stays shown).same (c.create_among.ensures.keeps shown)
+
+pub returns-clause-full : goal.returns-clause-full
+returns-clause-full g c = λ n is.
+    let full = c.create_among.ensures.full n is in
+    (full.0, λ shown. subst IsFullFresh (ap folder_of (c.list_files.ensures.quiet.stays shown).same) (full.1 shown))
+
+pub returns-clause-enough : goal.returns-clause-enough
+returns-clause-enough g c = λ shown.
+    subst (λ (f : Folder). OnOk c.create_among.result (IsFullFresh f → ⊥)) (ap folder_of (c.list_files.ensures.quiet.stays shown).same) (c.create_among.ensures.enough shown)

@@ -1,5 +1,7 @@
-use Rattle.std.proofs.Common.{◌≡◌, ◌≤◌, List, [], inl, None, sym, subst, refl, arith}
+use Rattle.std.proofs.Common.{◌≡◌, ◌+◌, ◌<◌, ◌≤◌, List, [], inl, None, sym, subst, refl, arith}
 use Rattle.std.specs.FinMap.{empty}
+use Rattle.std.specs.Prelude.{◌^◌}
+use Rattle.bl_flush.specs.Jobs.{next_of}
 use Rattle.bl_site.specs.Disk.{folder_of}
 use Rattle.bl_build.specs.Listing.{Listing, nothing}
 use Rattle.bl_build.specs.Versions.{IsVersion}
@@ -8,13 +10,14 @@ use Rattle.bl_folder.specs.Numbers.{IsFirstNumber}
 use Rattle.bl_entry.specs.declared.key.Entry.{Entry}
 use Rattle.bl_folder.specs.Flushes.{IsBelow}
 use Rattle.bl_open.proofs.AddLemmas.{nothing_added}
+use Rattle.bl_open.proofs.FullLemmas.{fresh_enough, on_ok}
 use Rattle.bl_open.proofs.KeepLemmas.{begun_kept}
 use Rattle.bl_open.proofs.MomentLemmas.{all_behind}
-use Rattle.bl_open.proofs.OpenedLemmas.{each_and, each_ok, first_is_new, nothing_passes}
+use Rattle.bl_open.proofs.OpenedLemmas.{each_and, each_ok, new_or_found, nothing_passes}
 use Rattle.bl_open.proofs.StartingLemmas.{starts_fresh}
 use Rattle.bl_open.specs.Beginning.{AddsFlush, IsNumbered, IsWithin, first_file}
 use Rattle.bl_open.specs.Fresh.{no_holding}
-use Rattle.bl_open.specs.Recovering.{TakesFresh}
+use Rattle.bl_open.specs.Recovering.{IsFullFresh, TakesFresh}
 use Rattle.bl_open.specs.declared.begin.Loaded.{Loaded}
 use Rattle.bl_open.proofs.opening.create_among.Goals as goal
 
@@ -60,7 +63,7 @@ returns-clause-cuts g c = λ shown settled.
     let first = c.first_number.ensures.first (folder_of disk) nothing is (nothing_passes (folder_of disk)) (c.requires.listed shown) (inl some) in
     let h : Holding = no_holding (record { log_number = l.first; next_file = l.first; last_sequence = 0; options = l.options }) in
     let s = starts_fresh c.barriers_let_disks_rest.ensures.fresh c.stores_begin.ensures.fresh c.memories_tell_what_was_inserted.ensures.memory c.batches_are_held.ensures.none disk l settled (c.requires.fresh shown) is first c.empty-version.ensures c.start.ensures refl in
-    record { first = first_file l.memory l.first; is_new = inl (first_is_new (folder_of disk) nothing 1 l.first l.memory first); sides = c.begin.ensures.sides shown None h empty s; behind = λ sure. all_behind g.S.Site empty c.args.site.now c.begin.new.site (c.begin.ensures.cuts shown sure None h empty s) }
+    record { first = first_file l.memory l.first; is_new = new_or_found g.S.Site (folder_of disk) nothing 1 l.first l.memory c.args.site.now c.begin.new.site (g.met.S.Site.only_now shown c.args.site.now) first c.begin.ensures.unmade; sides = c.begin.ensures.sides shown None h empty s; behind = λ sure. all_behind g.S.Site empty c.args.site.now c.begin.new.site (c.begin.ensures.cuts shown sure None h empty s) }
 
 pub returns-clause-settled : goal.returns-clause-settled
 returns-clause-settled g c = λ shown settled.
@@ -85,3 +88,27 @@ pub returns-clause-within : goal.returns-clause-within
 returns-clause-within g c =
     let l : Loaded = record { version = c.empty-version.result; options = c.args.options; memory = c.start.result; last = 0; first = c.first_number.result } in
     each_ok c.begin.result (IsNumbered l) IsWithin (λ o n. n.within) c.begin.ensures.numbered
+
+pub returns-clause-full : goal.returns-clause-full
+returns-clause-full g c = λ n is.
+    let full = c.begin.ensures.full n is in (
+      full.0,
+      λ shown.
+          let folder = folder_of (g.S.Site.disk c.args.site.now) in
+          let is_version : IsVersion nothing = subst IsVersion c.empty-version.ensures c.version_is_in_order.ensures in
+          let some : 1 ≤ 1 = omega arith in
+          record {
+            fresh = c.requires.fresh shown;
+            first = c.first_number.result;
+            is_first = c.first_number.ensures.first folder nothing is_version (nothing_passes folder) (c.requires.listed shown) (inl some);
+            past = subst (λ (es : List Entry). 10 ^ 15 < next_of c.args.options [] (c.first_number.result + 2) es) c.start.ensures full.1;
+          },
+    )
+
+pub returns-clause-enough : goal.returns-clause-enough
+returns-clause-enough g c = λ shown.
+    let folder = folder_of (g.S.Site.disk c.args.site.now) in
+    let l : Loaded = record { version = c.empty-version.result; options = c.args.options; memory = c.start.result; last = 0; first = c.first_number.result } in
+    on_ok c.begin.result (λ o. TakesFresh folder c.args.options o × IsNumbered l o) (IsFullFresh folder → ⊥)
+    (λ o both. fresh_enough folder c.args.options l o both.0 both.1)
+    (each_and c.begin.result (TakesFresh folder c.args.options) (IsNumbered l) (returns-clause-takes g c shown) c.begin.ensures.numbered)

@@ -1,7 +1,7 @@
 use Rattle.std.proofs.Common.{◌≡◌, ◌∙◌, List, None, inl, Err, ap, sym, subst}
 use Rattle.std.proofs.lemmas.Result.{err_from_is_err_and}
 use Rattle.std.specs.FinMap.{empty}
-use Rattle.std.specs.Prelude.{IfErr, IfOk}
+use Rattle.std.specs.Prelude.{IfErr, IfOk, OnOk}
 use Rattle.bl_site.specs.Disk.{Folder, folder_of}
 use Rattle.bl_entry.specs.Revisions.{Map}
 use Rattle.bl_edit.specs.Options.{Values}
@@ -10,6 +10,7 @@ use Rattle.bl_folder.specs.Live.{IsFresh}
 use Rattle.bl_folder.specs.Settled.{IsSettled}
 use Rattle.bl_folder.specs.Stands.{IsSoundFolder, Stands}
 use Rattle.bl_open.proofs.AnswerLemmas.{reading_not_full, reading_refused}
+use Rattle.bl_open.proofs.FullLemmas.{fresh_only, on_ok_too}
 use Rattle.bl_open.proofs.KeepLemmas.{kept_before, same_kept}
 use Rattle.bl_open.proofs.OpenedLemmas.{answers_before, cause_not_full, cause_silent, each_ok, fresh_is_empty, no_telling, none_if, nothing_cuts, silent_same, then_cuts}
 use Rattle.bl_open.proofs.ReadLemmas.{reads_make_nothing, then_reads}
@@ -19,7 +20,7 @@ use Rattle.bl_names.specs.declared.name.FileName.{FileName}
 use Rattle.bl_names.specs.declared.name.FileName.TheVariants.{Current}
 use Rattle.bl_out.specs.Files.{file}
 use Rattle.bl_open.specs.Listing.{AreListed, IsFirstStray}
-use Rattle.bl_open.specs.Recovering.{CutsAtBarrier, IsRefusal, TakesFresh, TakesOver}
+use Rattle.bl_open.specs.Recovering.{CutsAtBarrier, IsFull, IsFullFresh, IsRefusal, TakesFresh, TakesOver}
 use Rattle.bl_open.specs.declared.error.OpenErr.TheVariants.{Disk as DiskFailed, OutOfMemory}
 use Rattle.bl_open.proofs.opening.recover.Goals as goal
 
@@ -254,3 +255,30 @@ pub returns-clause-keeps : goal.returns-clause-keeps
 returns-clause-keeps g c = λ shown.
     kept_before c.create_among.result (g.S.Site.disk c.args.site.now) (g.S.Site.disk c.check_fresh.new.site) (g.S.Site.disk c.create_among.new.site)
     ((c.check_fresh.ensures.quiet.stays shown).same ∙ (c.list_files.ensures.quiet.stays shown).same) (c.create_among.ensures.keeps shown)
+
+pub returns-then-has_file-clause-full : goal.returns-then-has_file-clause-full
+returns-then-has_file-clause-full g c = λ n is.
+    let full = c.recover_live.ensures.full n is in
+    (full.0, λ shown. subst (λ (f : Folder). IsFull f c.args.asked.now) (ap folder_of (c.list_files.ensures.quiet.stays shown).same) (full.1 shown))
+
+pub returns-then-has_file-clause-enough : goal.returns-then-has_file-clause-enough
+returns-then-has_file-clause-enough g c = λ shown.
+    subst (λ (f : Folder). OnOk c.recover_live.result (IsFull f c.args.asked.now → ⊥)) (ap folder_of (c.list_files.ensures.quiet.stays shown).same) (c.recover_live.ensures.enough shown)
+
+pub returns-clause-full : goal.returns-clause-full
+returns-clause-full g c = λ n is.
+    let full = c.create_among.ensures.full n is in (
+      full.0,
+      λ shown.
+          let same = ap folder_of ((c.check_fresh.ensures.quiet.stays shown).same ∙ (c.list_files.ensures.quiet.stays shown).same) in
+          inl (subst IsFullFresh same (full.1 shown)),
+    )
+
+pub returns-clause-enough : goal.returns-clause-enough
+returns-clause-enough g c = λ shown.
+    let site = g.S.Site in
+    let folder = folder_of (site.disk c.args.site.now) in
+    let same : folder_of (site.disk c.check_fresh.new.site) ≡ folder = ap folder_of ((c.check_fresh.ensures.quiet.stays shown).same ∙ (c.list_files.ensures.quiet.stays shown).same) in
+    let fresh : IsFresh folder = subst IsFresh (ap folder_of (c.list_files.ensures.quiet.stays shown).same) (c.in_ok-check_fresh.ensures.fresh shown) in
+    on_ok_too c.create_among.result (IsFullFresh folder → ⊥) (IsFull folder c.args.asked.now → ⊥) (fresh_only folder c.args.asked.now fresh)
+    (subst (λ (f : Folder). OnOk c.create_among.result (IsFullFresh f → ⊥)) same (c.create_among.ensures.enough shown))

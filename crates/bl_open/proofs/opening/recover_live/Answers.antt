@@ -15,9 +15,10 @@ use Rattle.bl_folder.specs.Logs.{HaveBatches}
 use Rattle.bl_folder.specs.Numbers.{IsFirstNumber}
 use Rattle.bl_open.proofs.AnswerLemmas.{loading_not_full, missing_not_full, missing_refused, reading_not_full, reading_refused}
 use Rattle.bl_open.specs.Keeping.{KeepsAllButLogs}
+use Rattle.bl_open.proofs.FullLemmas.{full_loaded, on_ok, taken_enough}
 use Rattle.bl_open.proofs.KeepLemmas.{begun_kept, failed_kept, same_kept, synced_kept}
 use Rattle.bl_open.proofs.MomentLemmas.{all_behind}
-use Rattle.bl_open.proofs.OpenedLemmas.{cause_not_full, cause_silent, each_and, each_ok, first_is_new, no_telling, nothing_cuts, silent_same, some_in, the_logs, then_cuts}
+use Rattle.bl_open.proofs.OpenedLemmas.{cause_not_full, cause_silent, each_and, each_ok, new_or_found, no_telling, nothing_cuts, silent_same, some_in, the_logs, then_cuts}
 use Rattle.bl_open.proofs.ReadLemmas.{reads_make_nothing, then_nothing, then_reads}
 use Rattle.bl_open.proofs.RefusalLemmas.{due_of, loaded_not_refused, none_refused}
 use Rattle.bl_open.proofs.StartingLemmas.{live_stands, starts_live}
@@ -27,7 +28,7 @@ use Rattle.bl_open.specs.Beginning.{AddsFlush, IsNumbered, IsWithin, first_file}
 use Rattle.bl_open.specs.Damage.{NamesManifest}
 use Rattle.bl_open.specs.Found.{RestsAs}
 use Rattle.bl_open.specs.Listing.{AreListed, AreLogs}
-use Rattle.bl_open.specs.Recovering.{HasLoaded, IsRefused, IsRefusal, TakesLive, TakesOver}
+use Rattle.bl_open.specs.Recovering.{HasLoaded, IsFull, IsRefused, IsRefusal, TakesLive, TakesOver}
 use Rattle.bl_open.specs.declared.error.OpenErr.TheVariants.{Disk as DiskFailed, Corrupt, OutOfMemory}
 use Rattle.bl_open.proofs.opening.recover_live.Goals as goal
 
@@ -316,7 +317,7 @@ returns-clause-cuts g c = λ shown settled m stands.
     let n12 = then_nothing site shown (λ x. laws.only_now shown x) (λ x. laws.counts_now shown x) (λ x other sure. laws.only shown x other sure) s0 s1 s2 n1 n2 in
     let n13 = then_reads site shown (λ x. laws.only_now shown x) (λ x. laws.counts_now shown x) (λ x other sure. laws.only shown x other sure) s0 s2 s3 n12 c.load.ensures.quiet in
     then_cuts site shown (λ x. laws.only_now shown x) (λ x. laws.counts_now shown x) (λ x other sure. laws.only shown x other sure) m s0 s3 c.begin.new.site n13 same3
-    (record { first = first_file l.memory l.first; is_new = inl (first_is_new (folder_of (site.disk s3)) loaded.live.version loaded.live.standing.next_file l.first l.memory loaded.first); sides = c.begin.ensures.sides shown (Some (c.in_ok-manifest.manifest, loaded.live)) live.holding m s; behind = λ sure. all_behind site m s3 c.begin.new.site (c.begin.ensures.cuts shown sure (Some (c.in_ok-manifest.manifest, loaded.live)) live.holding m s) })
+    (record { first = first_file l.memory l.first; is_new = new_or_found site (folder_of (site.disk s3)) loaded.live.version loaded.live.standing.next_file l.first l.memory s3 c.begin.new.site (laws.only_now shown s3) loaded.first c.begin.ensures.unmade; sides = c.begin.ensures.sides shown (Some (c.in_ok-manifest.manifest, loaded.live)) live.holding m s; behind = λ sure. all_behind site m s3 c.begin.new.site (c.begin.ensures.cuts shown sure (Some (c.in_ok-manifest.manifest, loaded.live)) live.holding m s) })
 
 pub returns-clause-settled : goal.returns-clause-settled
 returns-clause-settled g c = λ shown settled sound no_chance.
@@ -406,3 +407,25 @@ returns-clause-keeps g c = λ shown.
 
 pub returns-clause-within : goal.returns-clause-within
 returns-clause-within g c = each_ok c.begin.result (IsNumbered c.in_ok-loaded.loaded) IsWithin (λ o n. n.within) c.begin.ensures.numbered
+
+pub returns-clause-full : goal.returns-clause-full
+returns-clause-full g c = λ n is.
+    let full = c.begin.ensures.full n is in (
+      full.0,
+      λ shown.
+          let site = g.S.Site in
+          let same : folder_of (site.disk c.sync_found.new.site) ≡ folder_of (site.disk c.args.site.now) =
+          c.in_ok-sync_found.ensures.same shown ∙ ap folder_of (c.read_current.ensures.quiet.stays shown).same in
+          let l = c.in_ok-loaded.loaded in
+          let loaded = subst (λ (f : Folder). HasLoaded f c.in_ok-manifest.manifest c.args.asked.now l) same (c.in_ok-loaded.ensures.loaded shown) in
+          inr (full_loaded c.memories_tell_what_was_inserted.ensures.memory (folder_of (site.disk c.args.site.now)) c.in_ok-manifest.manifest c.args.asked.now l loaded full.1),
+    )
+
+pub returns-clause-enough : goal.returns-clause-enough
+returns-clause-enough g c = λ shown.
+    let folder = folder_of (g.S.Site.disk c.args.site.now) in
+    let words = c.args.asked.now in
+    let l = c.in_ok-loaded.loaded in
+    on_ok c.begin.result (λ o. TakesOver folder words o × IsNumbered l o) (IsFull folder words → ⊥)
+    (λ o both. taken_enough c.folders_stand_for_one_map.ensures.live c.folders_stand_for_one_map.ensures.batches folder words l o both.0 both.1)
+    (each_and c.begin.result (TakesOver folder words) (IsNumbered l) (returns-clause-takes g c shown) c.begin.ensures.numbered)

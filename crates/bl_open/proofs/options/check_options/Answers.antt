@@ -1,6 +1,12 @@
-use Rattle.std.proofs.Common.{◌≡◌, Ok, sym, ◌∙◌}
+use Rattle.std.proofs.Common.{◌≡◌, Result, Ok, Err, refl, sym, ◌∙◌}
+use Rattle.bl_code.specs.Reading.{◌>>=◌}
 use Rattle.bl_open.specs.Options.{check_option, check_options}
+use Rattle.bl_open.specs.declared.error.OpenErr.{OpenErr}
 use Rattle.bl_open.proofs.options.check_options.Goals as goal
+
+then_done : (r : Result (Unit {0}) OpenErr) → (r >>= λ passed. Ok tt) ≡ r
+then_done (Ok x) = refl
+then_done (Err e) = refl
 
 -- each word before the last one passes
 pub returns : goal.returns
@@ -16,4 +22,4 @@ returns c =
     let r6 : check_option 6 v.level_base w.level_base ≡ Ok tt = sym c.check_option-6.ensures ∙ c.in_ok-check_option-6.was in
     let r7 : check_option 7 v.level_factor w.level_factor ≡ Ok tt = sym c.check_option-7.ensures ∙ c.in_ok-check_option-7.was in
     let r8 : check_option 8 v.age_cutoff w.age_cutoff ≡ Ok tt = sym c.check_option-8.ensures ∙ c.in_ok-check_option-8.was in
-    rw (← c.stored.view_is, ← c.asked.view_is, r1, r2, r3, r4, r5, r6, r7, r8) c.check_option-9.ensures
+    rw (← c.stored.view_is, ← c.asked.view_is, r1, r2, r3, r4, r5, r6, r7, r8) (c.check_option-9.ensures ∙ sym (then_done (check_option 9 v.force_threshold w.force_threshold)))
