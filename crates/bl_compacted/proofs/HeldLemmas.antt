@@ -226,4 +226,4 @@ held_named tables version counted folder manifest h holds named =
     }
 
 pub held_by : ReadsTables → LiveIsVersion → LastIsCounted → HeldByFolders
-held_by tables version counted folder manifest h found m holds sound = held_named tables version counted folder manifest h holds sound.tables
+held_by tables version counted folder manifest h holds named = held_named tables version counted folder manifest h holds named

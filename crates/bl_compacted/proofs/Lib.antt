@@ -16,6 +16,7 @@ pub mod InstallLemmas
 pub mod LawLemmas
 pub mod PickLemmas
 pub mod HeldLemmas
+pub mod FolderLemmas
 pub mod WrittenLemmas
 pub mod FitLemmas
 pub mod Rows

@@ -106,9 +106,9 @@ FlushesKeepClosed = (plan : Plan) (before flushed after : List TableFile) → Is
 
 -- ---- folders
 
--- What a folder holds that stands for a map has this about it besides.
+-- What a folder holds has this about it besides, where its tables are as the version names them.
 abbrev pub HeldByFolders : Type 0
-HeldByFolders = (folder : Folder) (manifest : ℕ) (h : Holding) (found : List Revision) (m : Map) → Holds folder manifest h → IsSound h found m → IsHeld h
+HeldByFolders = (folder : Folder) (manifest : ℕ) (h : Holding) → Holds folder manifest h → AllByRecursion IsAsNamed h.tables → IsHeld h
 
 -- What a job did with its inputs is a compaction of what is held where its edit is installed.
 abbrev pub RewritesCompact : Type 0

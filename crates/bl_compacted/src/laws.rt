@@ -41,8 +41,8 @@ pub fn plans_fit()
     ensures full { FullPlansFit }
 {}
 
-/// What a folder holds that stands for a map has its files as the version lists them, the entries of each table within its range, and its
-/// batches behind the last sequence of the manifest.
+/// What a folder holds, where its tables are as the version names them, has the files that the version lists, the entries of each table
+/// within its range, and its batches behind the last sequence of the manifest.
 pub fn folders_are_held()
     ensures { HeldByFolders }
 {
