@@ -41,3 +41,4 @@ mod AddLemmas
 mod KeepLemmas
 mod OneMemory
 mod FullLemmas
+pub mod SyncedLemmas

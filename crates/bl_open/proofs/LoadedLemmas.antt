@@ -24,7 +24,7 @@ use Rattle.bl_open.proofs.FlushedFiles.{below_more, take_all}
 use Rattle.bl_open.proofs.MomentLemmas.{IsSure, OnlyNow, all_before, none_found, rest_start}
 use Rattle.bl_open.proofs.StartLemmas.{side_before, then_side, then_stands}
 use Rattle.bl_open.specs.Barrier.{IsOnEitherSide}
-use Rattle.bl_open.specs.Beginning.{IsFoundIn, StartsFrom, first_file}
+use Rattle.bl_open.specs.Beginning.{HoldsLoaded, IsFoundIn, StartsFrom, first_file}
 use Rattle.bl_open.specs.Flushing.{FlushedHaveTables, HasFlushed, JobEditsApply, KeepsOthers, OthersKeepRest, all_flushed}
 use Rattle.bl_open.specs.Found.{AreAllBelow, Found, HasTables, IsSpareFor, RestsAs}
 use Rattle.bl_open.specs.OpeningLaws.{CutsOfRestsAs, NewNumbersAreSpare, RestsAreRests, RestsAreSettled}
@@ -46,7 +46,7 @@ manifest_spare law from (Some f) below = law from (Some f) (Manifest from) below
 ok_is : {A : Type 0} {x y : A} → ◌≡◌ {A = Result A BadVersion} (Ok x) (Ok y) → x ≡ y
 ok_is e = cc e
 
-module _ (tables : FlushedHaveTables) (applies : JobEditsApply) (found : Found) (h : Holding) (m : Map) (l : Loaded) (old mid : Disk) (e : Edit) (numbers next : ℕ) (v : Listing) (s : StartsFrom found h m l old) (at : numbers ≡ l.first + 2)
+module _ (tables : FlushedHaveTables) (applies : JobEditsApply) (h : Holding) (m : Map) (l : Loaded) (old mid : Disk) (e : Edit) (numbers next : ℕ) (v : Listing) (s : HoldsLoaded h m l old) (at : numbers ≡ l.first + 2)
     (some : 1 ≤ l.first) (most : next ≤ 10 ^ 15) (flushes : Flushes l.options numbers next [] l.memory mid e) (keeps : KeepsOthers numbers old mid) (applied : apply l.version e ≡ Ok v) (is : IsVersion v) where
   has_flushed : HasFlushed h.live.standing.options l.first numbers next l.memory old mid e
   has_flushed = record {

@@ -5,7 +5,7 @@ use Rattle.std.specs.List.{AllByRecursion}
 use Rattle.std.specs.Option.{option_map}
 use Rattle.std.specs.Result.{result_ok}
 use Rattle.std.specs.FinMap.{empty}
-use Rattle.bl_site.specs.Disk.{Disk, File, Folder, folder_of, written_of}
+use Rattle.bl_site.specs.Disk.{Disk, File, Folder, Name, folder_of, written_of}
 use Rattle.bl_names.specs.declared.name.FileName.{FileName}
 use Rattle.bl_names.specs.declared.name.FileName.TheVariants.{Log, Manifest, Table, Blob}
 use Rattle.bl_names.specs.Names.{IsNumber, name_of}
@@ -40,13 +40,15 @@ use Rattle.bl_folder.specs.Settled.{IsSettled, IsSynced, NamesSynced}
 use Rattle.bl_folder.specs.Stands.{Stands, StandsLive}
 use Rattle.bl_open.proofs.CutLemmas.{reads}
 use Rattle.bl_open.proofs.FrameLemmas.{all_both}
-use Rattle.bl_open.specs.Beginning.{StartsFrom}
+use Rattle.bl_open.specs.Beginning.{HoldsLoaded, StartsFrom}
 use Rattle.bl_open.specs.Found.{RestsAs}
 use Rattle.bl_open.specs.Fresh.{no_holding}
 use Rattle.bl_open.specs.Options.{Words}
 use Rattle.bl_open.specs.OpeningLaws.{FreshHasTables, FreshRests}
 use Rattle.bl_open.specs.Recovering.{HasLoaded}
 use Rattle.bl_open.specs.Steady.{HasFiles}
+use Rattle.bl_open.specs.Synced.{AreFilesBelow, as_synced}
+use Rattle.bl_open.proofs.SyncedLemmas.{files_below, files_of, named_synced, same_folder}
 use Rattle.bl_open.specs.declared.begin.Loaded.{Loaded}
 
 -- ---- a folder that has a live part
@@ -101,9 +103,10 @@ pub live_stands : (folder : Folder) (manifest : ℕ) (live : Restored) (m : Map)
 live_stands folder manifest live m is (inl fresh) = cc (fresh.0.current, is.current)
 live_stands folder manifest live m is (inr stands) = stands
 
-pub starts_live : LiveIsOne → BatchesAreOne → HeldAreWhole → HeldIsMemory → (disk : Disk) (manifest : ℕ) (words : Words) (l : Loaded) (m : Map) (loaded : HasLoaded (folder_of disk) manifest words l)
-    → (stands : StandsLive (folder_of disk) m) → RestsAs (Some (manifest, loaded.live)) m disk → StartsFrom (Some (manifest, loaded.live)) stands.holding m l disk
-starts_live one batches whole memory disk manifest words l m loaded stands rests =
+-- what was loaded is held, where the files of the version are synced
+pub holds_live : LiveIsOne → BatchesAreOne → HeldAreWhole → HeldIsMemory → (disk : Disk) (manifest : ℕ) (words : Words) (l : Loaded) (m : Map) (loaded : HasLoaded (folder_of disk) manifest words l)
+    → (stands : StandsLive (folder_of disk) m) → NamesSynced disk loaded.live → HoldsLoaded stands.holding m l disk
+holds_live one batches whole memory disk manifest words l m loaded stands named =
     let h : Holding = stands.holding in
     let same = one (folder_of disk) stands.manifest manifest h.live loaded.live stands.holds.live loaded.is_live in
     let w = whole (folder_of disk) stands.manifest h stands.holds in
@@ -113,11 +116,10 @@ starts_live one batches whole memory disk manifest words l m loaded stands rests
     subst (λ n. HaveBatches (folder_of disk) n loaded.live.standing.last_sequence h.batches h.last) log
     (subst (λ n. HaveBatches (folder_of disk) h.live.standing.log_number n h.batches h.last) before stands.holds.batches) in
     let are = batches (folder_of disk) loaded.live.standing.log_number loaded.live.standing.last_sequence h.batches loaded.logs.batches h.last l.last have loaded.logs.have in
-    let synced : NamesSynced disk h.live = subst (NamesSynced disk) (sym same.1) (named_of disk manifest loaded.live rests.synced) in
+    let synced : NamesSynced disk h.live = subst (NamesSynced disk) (sym same.1) named in
     let above = loaded.first.above in
     let below : IsBelow l.first loaded.live.version = record { tables = above.tables; blobs = above.blobs } in
     record {
-      rests = rests;
       loaded = record {
         files = files_written disk stands.manifest h stands.holds synced w.blobs;
         whole = w;
@@ -127,23 +129,57 @@ starts_live one batches whole memory disk manifest words l m loaded stands rests
         below = subst (λ (r : Restored). IsBelow l.first r.version) (sym same.1) below;
         logs = λ n is le. no_log disk n l.first (λ some. above.names (Log n) is some) le;
       };
-      found_in = same.1;
-      below = (above.names (Manifest manifest) loaded.is_live.number (some_is (file (folder_of disk) (Manifest manifest)) loaded.is_live.bytes loaded.is_live.there), below);
       version_is = ap (λ (r : Restored). r.version) same.1 ∙ loaded.version_is;
       options_are = ap (λ (r : Restored). r.standing.options) same.1 ∙ loaded.options_are;
       last_is = are.1;
     }
 
+pub starts_live : LiveIsOne → BatchesAreOne → HeldAreWhole → HeldIsMemory → (disk : Disk) (manifest : ℕ) (words : Words) (l : Loaded) (m : Map) (loaded : HasLoaded (folder_of disk) manifest words l)
+    → (stands : StandsLive (folder_of disk) m) → RestsAs (Some (manifest, loaded.live)) m disk → StartsFrom (Some (manifest, loaded.live)) stands.holding m l disk
+starts_live one batches whole memory disk manifest words l m loaded stands rests =
+    let above = loaded.first.above in
+    record {
+      rests = rests;
+      holds = holds_live one batches whole memory disk manifest words l m loaded stands (named_of disk manifest loaded.live rests.synced);
+      found_in = (one (folder_of disk) stands.manifest manifest stands.holding.live loaded.live stands.holds.live loaded.is_live).1;
+      below = (above.names (Manifest manifest) loaded.is_live.number (some_is (file (folder_of disk) (Manifest manifest)) loaded.is_live.bytes loaded.is_live.there), record { tables = above.tables; blobs = above.blobs });
+    }
+
+-- so it is as if the files of the version had been synced
+pub record HeldAsSynced (m : Map) (l : Loaded) (disk : Disk) : Type 0 where
+  pub names : List Name
+  pub below : AreFilesBelow l.first names
+  pub holding : Holding
+  pub holds : HoldsLoaded holding m l (as_synced names disk)
+
+pub held_as_synced : LiveIsOne → BatchesAreOne → HeldAreWhole → HeldIsMemory → (disk : Disk) (manifest : ℕ) (words : Words) (l : Loaded) (m : Map) → HasLoaded (folder_of disk) manifest words l → StandsLive (folder_of disk) m → HeldAsSynced m l disk
+held_as_synced one batches whole memory disk manifest words l m was stands =
+    let names = files_of was.live.version in
+    let same : folder_of (as_synced names disk) ≡ folder_of disk = same_folder names disk in
+    let loaded : HasLoaded (folder_of (as_synced names disk)) manifest words l = subst (λ (f : Folder). HasLoaded f manifest words l) (sym same) was in
+    let here : StandsLive (folder_of (as_synced names disk)) m = subst (λ (f : Folder). StandsLive f m) (sym same) stands in
+    let live : was.live ≡ loaded.live =
+    (one (folder_of (as_synced names disk)) manifest manifest was.live loaded.live (subst (λ (f : Folder). IsLive f manifest was.live) (sym same) was.is_live) loaded.is_live).1 in
+    let named : NamesSynced (as_synced names disk) loaded.live = subst (NamesSynced (as_synced names disk)) live (named_synced was.live disk) in
+    let version : IsVersion was.live.version =
+    subst (λ (r : Restored). IsVersion r.version) (one (folder_of disk) stands.manifest manifest stands.holding.live was.live stands.holds.live was.is_live).1 (whole (folder_of disk) stands.manifest stands.holding stands.holds).version in
+    let above = was.first.above in
+    record {
+      names = names;
+      below = files_below was.live.version l.first version (record { tables = above.tables; blobs = above.blobs });
+      holding = here.holding;
+      holds = holds_live one batches whole memory (as_synced names disk) manifest words l m loaded here named;
+    }
+
 -- ---- a fresh folder
 
-pub starts_fresh : FreshRests → FreshHasTables → HeldIsMemory → NoneIsHeld → (disk : Disk) (l : Loaded) → IsSettled disk → IsFresh (folder_of disk) → IsVersion nothing → IsFirstNumber (folder_of disk) nothing 1 l.first
-    → l.version ≡ nothing → l.memory ≡ [] → l.last ≡ 0 → StartsFrom None (no_holding (record { log_number = l.first; next_file = l.first; last_sequence = 0; options = l.options })) empty l disk
-starts_fresh rests tables memory none disk l settled fresh version first no_version no_memory no_last =
+pub holds_fresh : FreshHasTables → HeldIsMemory → NoneIsHeld → (disk : Disk) (l : Loaded) → IsVersion nothing → IsFirstNumber (folder_of disk) nothing 1 l.first
+    → l.version ≡ nothing → l.memory ≡ [] → l.last ≡ 0 → HoldsLoaded (no_holding (record { log_number = l.first; next_file = l.first; last_sequence = 0; options = l.options })) empty l disk
+holds_fresh tables memory none disk l version first no_version no_memory no_last =
     let standing : Standing = record { log_number = l.first; next_file = l.first; last_sequence = 0; options = l.options } in
     let absent : (n : ℕ) → IsNumber n → l.first ≤ n → disk (name_of (Log n)) ≡ None = λ n is le. no_log disk n l.first (λ some. first.above.names (Log n) is some) le in
     let t = tables (λ n. empty) l.first standing disk refl refl absent in
     record {
-      rests = rests disk settled fresh;
       loaded = record {
         files = t.files;
         whole = record { version = version; tables = refl; blobs = refl; follow = tt; last = refl };
@@ -153,9 +189,16 @@ starts_fresh rests tables memory none disk l settled fresh version first no_vers
         below = record { tables = tt; blobs = tt };
         logs = absent;
       };
-      found_in = no_memory;
-      below = tt;
       version_is = sym no_version;
       options_are = refl;
       last_is = sym no_last;
     }
+
+pub starts_fresh : FreshRests → FreshHasTables → HeldIsMemory → NoneIsHeld → (disk : Disk) (l : Loaded) → IsSettled disk → IsFresh (folder_of disk) → IsVersion nothing → IsFirstNumber (folder_of disk) nothing 1 l.first
+    → l.version ≡ nothing → l.memory ≡ [] → l.last ≡ 0 → StartsFrom None (no_holding (record { log_number = l.first; next_file = l.first; last_sequence = 0; options = l.options })) empty l disk
+starts_fresh rests tables memory none disk l settled fresh version first no_version no_memory no_last = record {
+  rests = rests disk settled fresh;
+  holds = holds_fresh tables memory none disk l version first no_version no_memory no_last;
+  found_in = no_memory;
+  below = tt;
+}

@@ -20,6 +20,7 @@ use Rattle.bl_open.specs.Found.{AreAllBelow, Found, RestsAs}
 use Rattle.bl_open.specs.Installations.{IsInstalled}
 use Rattle.bl_open.specs.Steady.{Maps, IsSteady}
 use Rattle.bl_open.specs.SteadyCalls.{begun}
+use Rattle.bl_open.specs.Synced.{AreFilesBelow, as_synced}
 use Rattle.bl_open.specs.declared.begin.Loaded.{Loaded}
 use Rattle.bl_open.specs.declared.begin.Opened.{Opened}
 
@@ -35,15 +36,19 @@ abbrev pub IsFoundIn : Found → Holding → List Entry → Type 0
 IsFoundIn None h memory = memory ≡ []
 IsFoundIn (Some found) h memory = h.live ≡ found.1
 
--- The disk rests as what was found, with this map; what is held of it was loaded, and the first number for a new file is above all that was found.
-pub record StartsFrom (found : Found) (h : Holding) (m : Map) (l : Loaded) (disk : Disk) : Type 0 where
-  pub rests : RestsAs found m disk
+-- What is held of the disk was loaded, and makes this map.
+pub record HoldsLoaded (h : Holding) (m : Map) (l : Loaded) (disk : Disk) : Type 0 where
   pub loaded : IsLoaded h m l.memory l.first disk
-  pub found_in : IsFoundIn found h l.memory
-  pub below : AreAllBelow l.first found
   pub version_is : h.live.version ≡ l.version
   pub options_are : h.live.standing.options ≡ l.options
   pub last_is : h.last ≡ l.last
+
+-- The disk rests as what was found, with this map; what is held of it was loaded, and the first number for a new file is above all that was found.
+pub record StartsFrom (found : Found) (h : Holding) (m : Map) (l : Loaded) (disk : Disk) : Type 0 where
+  pub rests : RestsAs found m disk
+  pub holds : HoldsLoaded h m l disk
+  pub found_in : IsFoundIn found h l.memory
+  pub below : AreAllBelow l.first found
 
 -- the number of the first file that an opening makes, behind the manifest's: that of its table, or that of its log where no entry was found
 abbrev pub first_made : List Entry → ℕ → ℕ
@@ -106,3 +111,9 @@ pub record IsOpened (maps : Maps) (o : Opened) (disk : Disk) : Type 0 where
   pub live : holding.live ≡ live_of o
   pub batches : holding.batches ≡ []
   pub steady : IsSteady maps (begun o.manifest (snapshot o.version o.standing ∷ []) o.standing.log_number holding 0) disk
+
+-- A store begins on the disk as if some tables and blob files that it had before had been synced: those of lower numbers than the manifest.
+pub record IsOpenedAsSynced (maps : Maps) (o : Opened) (disk : Disk) : Type 0 where
+  pub names : List Name
+  pub before : AreFilesBelow o.manifest.number names
+  pub opened : IsOpened maps o (as_synced names disk)

@@ -20,3 +20,4 @@ pub mod Options
 pub mod Damage
 pub mod DamageLaws
 pub mod Recovering
+pub mod Synced

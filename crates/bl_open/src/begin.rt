@@ -1,6 +1,6 @@
 //! How an opening begins a store on what it has read.
 
-ghost use Rattle.std.specs.Prelude.{◌≡◌, ℕ, ◌+◌, ◌^◌, ◌<◌, ◌≤◌, [], ◌∷◌, false, Err, IfOk, IfErr, Ok, OnOk, IsErrOf};
+ghost use Rattle.std.specs.Prelude.{◌≡◌, ℕ, ◌+◌, ◌^◌, ◌<◌, ◌≤◌, List, [], ◌∷◌, false, Err, IfOk, IfErr, Ok, OnOk, IsErrOf};
 ghost use Rattle.bl_site.specs.Calls.{LeavesOnly};
 ghost use Rattle.bl_site.specs.Causes.{Rose};
 ghost use Rattle.bl_site.specs.Disk.{Name};
@@ -19,7 +19,7 @@ ghost use Rattle.bl_folder.specs.Flushes.{IsBelow};
 ghost use Rattle.bl_folder.specs.Holding.{Holding};
 ghost use Rattle.bl_folder.specs.Settled.{IsSettled};
 ghost use Rattle.bl_open.specs.Barrier.{IsOnEitherSide};
-ghost use Rattle.bl_open.specs.Beginning.{AddsFlush, IsBounded, IsInPlace, IsNumbered, IsOpened, StartsFrom, first_file, first_made};
+ghost use Rattle.bl_open.specs.Beginning.{AddsFlush, HoldsLoaded, IsBounded, IsInPlace, IsNumbered, IsOpened, StartsFrom, first_file, first_made};
 ghost use Rattle.bl_open.specs.Causes.{FailsByFolder, IsWriting};
 ghost use Rattle.bl_open.specs.Found.{Found, HasTables, IsSpareFor, RestsAs};
 ghost use Rattle.bl_open.specs.Installations.{IsInstalled};
@@ -27,6 +27,7 @@ ghost use Rattle.bl_open.specs.Keeping.{KeepsBefore};
 ghost use Rattle.bl_open.specs.Steady.{Maps, IsSteady};
 ghost use Rattle.bl_open.specs.SteadyCalls.{begun};
 ghost use Rattle.bl_open.specs.SteadyCuts.{LeavesStanding};
+ghost use Rattle.bl_open.specs.Synced.{AreFilesBelow, as_synced};
 
 use crate::error::OpenErr;
 use crate::files::make_log;
@@ -103,8 +104,8 @@ fn start_store<S: Site>(
     ensures installed { S.shows → OnOk result (IsInstalled manifest (record { version = version.now; standing = standing.now }) (S.disk site.new)) }
     ensures empty { S.shows → OnOk result (HoldsBatches (S.disk site.new) (new_log log) [] 0) }
     ensures others { S.shows → (name : Name) → IsNoneOf (log_name log ∷ manifest_name manifest ∷ name_of (Temp manifest) ∷ name_of Current ∷ []) name → S.disk site.new name ≡ S.disk site.old name }
-    ensures steady { S.shows → (maps : Maps) (h : Holding) → HasTables maps log h (S.disk site.old) → h.live ≡ record { version = version.now; standing = standing.now }
-        → IfOk result (λ r. IsSteady maps (begun r.0 (snapshot version.now standing.now ∷ []) log h 0) (S.disk site.new)) }
+    ensures steady { S.shows → (names : List Name) (from : ℕ) → AreFilesBelow from names → (maps : Maps) (h : Holding) → HasTables maps log h (as_synced names (S.disk site.old)) → h.live ≡ record { version = version.now; standing = standing.now }
+        → IfOk result (λ r. IsSteady maps (begun r.0 (snapshot version.now standing.now ∷ []) log h 0) (as_synced names (S.disk site.new))) }
     ensures sides { S.shows → (found : Found) (maps : Maps) (h : Holding) → RestsAs found (maps 0) (S.disk site.old) → IsSpareFor found (ManifestName manifest)
         → HasTables maps log h (S.disk site.old) → h.live ≡ record { version = version.now; standing = standing.now }
         → LeavesOnly S.clock S.left_since site.old site.new (IsOnEitherSide (log_name log) (S.may_be site.old) (maps 0) (S.told site.old)) }
@@ -125,7 +126,8 @@ fn start_store<S: Site>(
 
 /// Begins a store on what was loaded: draws a number for the manifest and the next one for the log, flushes the memory, makes the log
 /// and installs the version, so that no batch is left in a needed log. From a disk that rests as what was found a cut
-/// leaves its map, whatever is answered; before the first file is made it leaves what one before might have left; where no number is left for that file, the folder is not asked. At `Ok` the disk is steady.
+/// leaves its map, whatever is answered; before the first file is made it leaves what one before might have left; where no number is left for that file, the folder is not asked. At `Ok` the disk is
+/// steady: from a disk that holds what was loaded once some tables and blob files of lower numbers count as synced, as soon as these count so.
 ///
 /// Errors: `Disk`; `Full(10^15)`, only where the manifest, the log and the files of the flush take more numbers than are left; `OutOfMemory`.
 pub(crate) fn begin<S: Site>(alloc: Global, site: &mut S, loaded: Loaded) -> Result<Opened, OpenErr>
@@ -136,7 +138,8 @@ pub(crate) fn begin<S: Site>(alloc: Global, site: &mut S, loaded: Loaded) -> Res
     ensures keeps { S.shows → KeepsBefore loaded.first (S.disk site.old) (S.disk site.new) }
     ensures adds { S.shows → IfOk result (AddsFlush loaded.version loaded.memory) }
     ensures in_place { S.shows → IfOk result (λ o. IsInPlace o (S.disk site.new)) }
-    ensures opened { S.shows → (found : Found) (h : Holding) (m : Map) → StartsFrom found h m loaded (S.disk site.old) → (maps : Maps) → maps 0 ≡ m → IfOk result (λ o. IsOpened maps o (S.disk site.new)) }
+    ensures opened { S.shows → (names : List Name) → AreFilesBelow loaded.first names → (h : Holding) (m : Map) → HoldsLoaded h m loaded (as_synced names (S.disk site.old))
+        → (maps : Maps) → maps 0 ≡ m → IfOk result (λ o. IsOpened maps o (as_synced names (S.disk site.new))) }
     ensures sides { S.shows → (found : Found) (h : Holding) (m : Map) → StartsFrom found h m loaded (S.disk site.old)
         → LeavesOnly S.clock S.left_since site.old site.new (IsOnEitherSide (first_file loaded.memory loaded.first) (S.may_be site.old) m (S.told site.old)) }
     ensures cuts { S.shows → S.certain site.old → (found : Found) (h : Holding) (m : Map) → StartsFrom found h m loaded (S.disk site.old)

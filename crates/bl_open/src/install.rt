@@ -1,6 +1,7 @@
 //! How an opening installs what it has made: one manifest of the whole version, and CURRENT's new text.
 
-ghost use Rattle.std.specs.Prelude.{◌≡◌, ◌⊎◌, ℕ, ◌<◌, ◌≤◌, ◌^◌, false, [], ◌∷◌, Some, IfOk, OnOk};
+ghost use Rattle.std.specs.Prelude.{◌≡◌, ◌⊎◌, ℕ, List, ◌<◌, ◌≤◌, ◌^◌, false, [], ◌∷◌, Some, IfOk, OnOk};
+ghost use Rattle.bl_site.specs.Disk.{Name};
 ghost use Rattle.bl_site.specs.Calls.{LeavesOnly};
 ghost use Rattle.bl_site.specs.Quiet.{TellsNothing};
 ghost use Rattle.bl_names.specs.declared.name.FileName.TheVariants.{Current, Manifest as ManifestName, Temp};
@@ -18,6 +19,7 @@ ghost use Rattle.bl_open.specs.Causes.{FailsByFolder};
 ghost use Rattle.bl_open.specs.Steady.{Maps, IsSteady};
 ghost use Rattle.bl_open.specs.SteadyCalls.{IsReady, begun};
 ghost use Rattle.bl_open.specs.SteadyCuts.{LeavesStanding};
+ghost use Rattle.bl_open.specs.Synced.{AreFilesBelow, as_synced};
 ghost use Rattle.bl_open.specs.Installations.{Begins, HasCurrent, IsInstalled};
 ghost use Rattle.bl_open.specs.Found.{Found, IsSpareFor, RestsAs};
 
@@ -42,8 +44,8 @@ pub(crate) fn show_range(options: &Options)
 
 /// Lets CURRENT name the manifest of this number, from 1 to 10^15 - 1: its text is written to the temporary file of the
 /// same number, which is synced and renamed to CURRENT. Whatever is answered, CURRENT is as it was, or names the
-/// manifest. Where all else that a store stands on is there, the disk is steady at `Ok`, and a cut meanwhile leaves the
-/// map that was found.
+/// manifest. Where all else that a store stands on is there, the disk is steady at `Ok`, also where some tables and blob
+/// files only count as synced; and a cut meanwhile leaves the map that was found.
 ///
 /// Errors: `Disk` and `OutOfMemory`.
 pub(crate) fn name_manifest<S: Site>(
@@ -55,8 +57,8 @@ pub(crate) fn name_manifest<S: Site>(
     ensures current { S.shows → OnOk result (HasCurrent number (S.disk site.new)) }
     ensures either { S.shows → (S.disk site.new (name_of Current) ≡ S.disk site.old (name_of Current)) ⊎ HasCurrent number (S.disk site.new) }
     ensures touches { TouchesOnly S.Site (name_of (Temp number) ∷ name_of Current ∷ []) site.old site.new }
-    ensures steady { S.shows → (maps : Maps) (made : ManifestFile) (edits : Edits) (log : ℕ) (h : Holding) → made.number ≡ number
-        → IsReady maps (begun made edits log h 0) (S.disk site.old) → OnOk result (IsSteady maps (begun made edits log h 0) (S.disk site.new)) }
+    ensures steady { S.shows → (names : List Name) (from : ℕ) → AreFilesBelow from names → (maps : Maps) (made : ManifestFile) (edits : Edits) (log : ℕ) (h : Holding) → made.number ≡ number
+        → IsReady maps (begun made edits log h 0) (as_synced names (S.disk site.old)) → OnOk result (IsSteady maps (begun made edits log h 0) (as_synced names (S.disk site.new))) }
     ensures cuts { S.shows → S.certain site.old → (maps : Maps) (made : ManifestFile) (edits : Edits) (log : ℕ) (h : Holding) → made.number ≡ number
         → IsReady maps (begun made edits log h 0) (S.disk site.old) → h.batches ≡ [] → (found : Found) → RestsAs found (maps 0) (S.disk site.old)
         → LeavesOnly S.clock S.left_since site.old site.new (LeavesStanding (maps 0) (S.told site.old)) }
@@ -82,7 +84,8 @@ pub(crate) fn name_manifest<S: Site>(
 /// is at most 10^15. Whatever the folder was, at `Ok` CURRENT and the manifest restore exactly this, and no name call is
 /// in doubt. Whatever is answered, all but CURRENT, the manifest and the temporary file is as before, and CURRENT is as
 /// it was, or names the manifest, which restores exactly this. Where the log was made and the tables and blob files are
-/// there, the disk is steady at `Ok`, and a cut meanwhile leaves the map that was found.
+/// there, the disk is steady at `Ok`, also where some of them only count as synced; and a cut meanwhile leaves the map
+/// that was found.
 ///
 /// Errors: `Disk` and `OutOfMemory`.
 pub(crate) fn install_store<S: Site>(
@@ -101,8 +104,8 @@ pub(crate) fn install_store<S: Site>(
     ensures holds { S.shows → IfOk result (λ made. HoldsEdits (S.disk site.new) made (snapshot version.now standing.now ∷ []) 1) }
     ensures touches { TouchesOnly S.Site (manifest_name number ∷ name_of (Temp number) ∷ name_of Current ∷ []) site.old site.new }
     ensures log { S.shows → (log : ℕ) → IsNumber log → HoldsBatches (S.disk site.old) (new_log log) [] 0 → HoldsBatches (S.disk site.new) (new_log log) [] 0 }
-    ensures steady { S.shows → (maps : Maps) (log : ℕ) (h : Holding) → h.live ≡ record { version = version.now; standing = standing.now } → Begins maps 0 log h (S.disk site.old)
-        → IfOk result (λ made. IsSteady maps (begun made (snapshot version.now standing.now ∷ []) log h 0) (S.disk site.new)) }
+    ensures steady { S.shows → (names : List Name) (from : ℕ) → AreFilesBelow from names → (maps : Maps) (log : ℕ) (h : Holding) → h.live ≡ record { version = version.now; standing = standing.now } → Begins maps 0 log h (as_synced names (S.disk site.old))
+        → IfOk result (λ made. IsSteady maps (begun made (snapshot version.now standing.now ∷ []) log h 0) (as_synced names (S.disk site.new))) }
     ensures cuts { S.shows → S.certain site.old → (found : Found) (maps : Maps) (log : ℕ) (h : Holding) → h.live ≡ record { version = version.now; standing = standing.now } → Begins maps 0 log h (S.disk site.old)
         → RestsAs found (maps 0) (S.disk site.old) → IsSpareFor found (ManifestName number) → LeavesOnly S.clock S.left_since site.old site.new (LeavesStanding (maps 0) (S.told site.old)) }
     ensures settled { S.shows → (found : Found) (maps : Maps) (log : ℕ) (h : Holding) → h.live ≡ record { version = version.now; standing = standing.now } → Begins maps 0 log h (S.disk site.old)

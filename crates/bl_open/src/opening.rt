@@ -14,7 +14,7 @@ ghost use Rattle.bl_folder.specs.Live.{IsFresh};
 ghost use Rattle.bl_folder.specs.Settled.{IsSettled};
 ghost use Rattle.bl_folder.specs.Stands.{IsSoundFolder, Stands};
 ghost use Rattle.bl_open.specs.Answers.{IsLoading};
-ghost use Rattle.bl_open.specs.Beginning.{IsBounded, IsInPlace, IsOpened, IsWithin};
+ghost use Rattle.bl_open.specs.Beginning.{IsBounded, IsInPlace, IsOpened, IsOpenedAsSynced, IsWithin};
 ghost use Rattle.bl_open.specs.Causes.{IsWriting};
 ghost use Rattle.bl_open.specs.Damage.{NamesManifest};
 ghost use Rattle.bl_open.specs.Keeping.{KeepsFound};
@@ -58,7 +58,7 @@ fn create_among<S: Site>(
     ensures within { IfOk result IsWithin }
     ensures in_place { S.shows → IfOk result (λ o. IsInPlace o (S.disk site.new)) }
     ensures keeps { S.shows → KeepsFound result (S.disk site.old) (S.disk site.new) }
-    ensures opened { S.shows → IsSettled (S.disk site.old) → (maps : Maps) → maps 0 ≡ empty → IfOk result (λ o. IsOpened maps o (S.disk site.new)) }
+    ensures opened { S.shows → (maps : Maps) → maps 0 ≡ empty → IfOk result (λ o. IsOpened maps o (S.disk site.new)) }
     ensures cuts { S.shows → IsSettled (S.disk site.old) → CutsAtBarrier S.Site empty site.old site.new }
     ensures settled { S.shows → IsSettled (S.disk site.old) → IsSettled (S.disk site.new) }
     ensures certain { S.shows → OnOk result (S.certain site.new) }
@@ -85,8 +85,8 @@ fn create_among<S: Site>(
 }
 
 /// Makes a fresh folder a store's: an empty log, a manifest of one record with these options, and CURRENT, which names it. The folder
-/// is listed once. From a settled disk, a cut meanwhile leaves what one before might have left, but that one file may be there, empty, or a folder that
-/// stands for the empty map; at `Ok` the disk is steady. A settled disk stays settled, and at `Ok` no name call is in doubt.
+/// is listed once. At `Ok` the disk is steady, and no name call is in doubt. From a settled disk, a cut meanwhile leaves what one before might have left,
+/// but that one file may be there, empty, or a folder that stands for the empty map; and a settled disk stays settled.
 ///
 /// Errors: `Disk`; `Full(10^15)`, exactly where the manifest and the log would take more numbers than are left from the first number on and neither
 /// `Disk` nor `OutOfMemory` is answered; `OutOfMemory`.
@@ -96,7 +96,7 @@ pub fn create<S: Site>(alloc: Global, site: &mut S, options: &Options) -> Result
     ensures within { IfOk result IsWithin }
     ensures in_place { S.shows → IfOk result (λ o. IsInPlace o (S.disk site.new)) }
     ensures keeps { S.shows → KeepsFound result (S.disk site.old) (S.disk site.new) }
-    ensures opened { S.shows → IsSettled (S.disk site.old) → (maps : Maps) → maps 0 ≡ empty → IfOk result (λ o. IsOpened maps o (S.disk site.new)) }
+    ensures opened { S.shows → (maps : Maps) → maps 0 ≡ empty → IfOk result (λ o. IsOpened maps o (S.disk site.new)) }
     ensures cuts { S.shows → IsSettled (S.disk site.old) → CutsAtBarrier S.Site empty site.old site.new }
     ensures settled { S.shows → IsSettled (S.disk site.old) → IsSettled (S.disk site.new) }
     ensures certain { S.shows → OnOk result (S.certain site.new) }
@@ -179,6 +179,7 @@ fn recover_live<S: Site>(
     ensures in_place { S.shows → IfOk result (λ o. IsInPlace o (S.disk site.new)) }
     ensures keeps { S.shows → KeepsFound result (S.disk site.old) (S.disk site.new) }
     ensures opened { S.shows → IsSettled (S.disk site.old) → (m : Map) → Stands (folder_of (S.disk site.old)) m → (maps : Maps) → maps 0 ≡ m → IfOk result (λ o. IsOpened maps o (S.disk site.new)) }
+    ensures begins { S.shows → (m : Map) → Stands (folder_of (S.disk site.old)) m → (maps : Maps) → maps 0 ≡ m → IfOk result (λ o. IsOpenedAsSynced maps o (S.disk site.new)) }
     ensures cuts { S.shows → IsSettled (S.disk site.old) → (m : Map) → Stands (folder_of (S.disk site.old)) m → CutsAtBarrier S.Site m site.old site.new }
     ensures settled { S.shows → IsSettled (S.disk site.old) → IsSoundFolder (folder_of (S.disk site.old)) → NoChanceMatch (folder_of (S.disk site.new)) (written_of (S.disk site.new)) → IsSettled (S.disk site.new) }
     ensures certain { S.shows → OnOk result (S.certain site.new) }
@@ -208,7 +209,8 @@ fn recover_live<S: Site>(
 /// once, and no file is read whole but the manifest and the logs.
 ///
 /// From a settled disk whose folder stands for a map, a cut meanwhile leaves what one before might have left, but that one file may be there, empty,
-/// or a folder that stands for this map; at `Ok` the disk is steady for it, and no name call is in doubt. Nothing is told.
+/// or a folder that stands for this map; at `Ok` the disk is steady for it. From any disk whose folder stands for a map, it is so at `Ok` as if some tables
+/// and blob files that were there before had been synced. At `Ok` no name call is in doubt. Nothing is told.
 ///
 /// Errors, the first three exactly where neither `Disk` nor `OutOfMemory` is answered: `Corrupt` with the first damaged name and place, and `Differ` at
 /// the first option whose word is not the stored value, each where that comes first: CURRENT and its manifest, then the words, then tables, blob files
@@ -220,6 +222,7 @@ pub fn recover<S: Site>(alloc: Global, site: &mut S, asked: &Asked) -> Result<Op
     ensures in_place { S.shows → IfOk result (λ o. IsInPlace o (S.disk site.new)) }
     ensures keeps { S.shows → KeepsFound result (S.disk site.old) (S.disk site.new) }
     ensures opened { S.shows → IsSettled (S.disk site.old) → (m : Map) → Stands (folder_of (S.disk site.old)) m → (maps : Maps) → maps 0 ≡ m → IfOk result (λ o. IsOpened maps o (S.disk site.new)) }
+    ensures begins { S.shows → (m : Map) → Stands (folder_of (S.disk site.old)) m → (maps : Maps) → maps 0 ≡ m → IfOk result (λ o. IsOpenedAsSynced maps o (S.disk site.new)) }
     ensures cuts { S.shows → IsSettled (S.disk site.old) → (m : Map) → Stands (folder_of (S.disk site.old)) m → CutsAtBarrier S.Site m site.old site.new }
     ensures settled { S.shows → IsSettled (S.disk site.old) → IsSoundFolder (folder_of (S.disk site.old)) → NoChanceMatch (folder_of (S.disk site.new)) (written_of (S.disk site.new)) → IsSettled (S.disk site.new) }
     ensures certain { S.shows → OnOk result (S.certain site.new) }

@@ -18,6 +18,8 @@ use Rattle.bl_open.specs.Found.{IsSpareFor}
 use Rattle.bl_open.specs.Installations.{IsInstalled}
 use Rattle.bl_wal.specs.Held.{HoldsBatches}
 use Rattle.bl_open.specs.Steady.{Maps}
+use Rattle.bl_open.proofs.SyncedLemmas.{flushes_synced, others_synced}
+use Rattle.bl_open.specs.Synced.{as_synced}
 use Rattle.bl_open.proofs.begin.begin.Goals as goal
 
 pub returns-in_err-manifest-clause-sides : goal.returns-in_err-manifest-clause-sides
@@ -103,10 +105,10 @@ returns-in_err-manifest-2-clause-sides g c = λ shown found h m s.
     let next = c.in_ok-version.ensures.next in
     let e = c.in_ok-edit.edit in
     let v = c.in_ok-version.version in
-    let h_after = after flush.tables flush.applies found h m l (site.disk old) (site.disk mid) e c.draw-2.new.self c.flush_found.new.numbers v s at c.requires.bounded.some most flushes keeps next.0 next.1 in
-    let live = live_after flush.tables flush.applies found h m l (site.disk old) (site.disk mid) e c.draw-2.new.self c.flush_found.new.numbers v s at c.requires.bounded.some most flushes keeps next.0 next.1
+    let h_after = after flush.tables flush.applies h m l (site.disk old) (site.disk mid) e c.draw-2.new.self c.flush_found.new.numbers v s.holds at c.requires.bounded.some most flushes keeps next.0 next.1 in
+    let live = live_after flush.tables flush.applies h m l (site.disk old) (site.disk mid) e c.draw-2.new.self c.flush_found.new.numbers v s.holds at c.requires.bounded.some most flushes keeps next.0 next.1
     c.in_ok-log.log c.next.result at_log c.next.ensures.value in
-    let tables = λ (maps : Maps) (first : maps 0 ≡ m). tables_after flush.tables flush.applies found h m l (site.disk old) (site.disk mid) e c.draw-2.new.self c.flush_found.new.numbers v s at c.requires.bounded.some most flushes keeps next.0 next.1
+    let tables = λ (maps : Maps) (first : maps 0 ≡ m). tables_after flush.tables flush.applies h m l (site.disk old) (site.disk mid) e c.draw-2.new.self c.flush_found.new.numbers v s.holds at c.requires.bounded.some most flushes keeps next.0 next.1
     maps c.in_ok-log.log first at_log in
     let rests = rests_now site found h m l old s (g.met.S.Site.only_now shown old) c.drawn_files_let_disks_rest.ensures.rest laws.cuts mid c.draw-2.new.self at keeps c.flush_found.ensures.idle in
     let spare : IsSpareFor found (Manifest c.in_ok-manifest.manifest) = subst (λ (n : ℕ). IsSpareFor found (Manifest n)) (sym at_manifest) (manifest_spare laws.numbers l.first found s.below) in
@@ -134,10 +136,10 @@ returns-in_err-manifest-2-clause-cuts g c = λ shown sure found h m s.
     let next = c.in_ok-version.ensures.next in
     let e = c.in_ok-edit.edit in
     let v = c.in_ok-version.version in
-    let h_after = after flush.tables flush.applies found h m l (site.disk old) (site.disk mid) e c.draw-2.new.self c.flush_found.new.numbers v s at c.requires.bounded.some most flushes keeps next.0 next.1 in
-    let live = live_after flush.tables flush.applies found h m l (site.disk old) (site.disk mid) e c.draw-2.new.self c.flush_found.new.numbers v s at c.requires.bounded.some most flushes keeps next.0 next.1
+    let h_after = after flush.tables flush.applies h m l (site.disk old) (site.disk mid) e c.draw-2.new.self c.flush_found.new.numbers v s.holds at c.requires.bounded.some most flushes keeps next.0 next.1 in
+    let live = live_after flush.tables flush.applies h m l (site.disk old) (site.disk mid) e c.draw-2.new.self c.flush_found.new.numbers v s.holds at c.requires.bounded.some most flushes keeps next.0 next.1
     c.in_ok-log.log c.next.result at_log c.next.ensures.value in
-    let tables = λ (maps : Maps) (first : maps 0 ≡ m). tables_after flush.tables flush.applies found h m l (site.disk old) (site.disk mid) e c.draw-2.new.self c.flush_found.new.numbers v s at c.requires.bounded.some most flushes keeps next.0 next.1
+    let tables = λ (maps : Maps) (first : maps 0 ≡ m). tables_after flush.tables flush.applies h m l (site.disk old) (site.disk mid) e c.draw-2.new.self c.flush_found.new.numbers v s.holds at c.requires.bounded.some most flushes keeps next.0 next.1
     maps c.in_ok-log.log first at_log in
     let rests = rests_now site found h m l old s (g.met.S.Site.only_now shown old) c.drawn_files_let_disks_rest.ensures.rest laws.cuts mid c.draw-2.new.self at keeps c.flush_found.ensures.idle in
     let spare : IsSpareFor found (Manifest c.in_ok-manifest.manifest) = subst (λ (n : ℕ). IsSpareFor found (Manifest n)) (sym at_manifest) (manifest_spare laws.numbers l.first found s.below) in
@@ -162,10 +164,10 @@ returns-in_err-manifest-2-clause-settled g c = λ shown found h m s.
     let next = c.in_ok-version.ensures.next in
     let e = c.in_ok-edit.edit in
     let v = c.in_ok-version.version in
-    let h_after = after flush.tables flush.applies found h m l (site.disk old) (site.disk mid) e c.draw-2.new.self c.flush_found.new.numbers v s at c.requires.bounded.some most flushes keeps next.0 next.1 in
-    let live = live_after flush.tables flush.applies found h m l (site.disk old) (site.disk mid) e c.draw-2.new.self c.flush_found.new.numbers v s at c.requires.bounded.some most flushes keeps next.0 next.1
+    let h_after = after flush.tables flush.applies h m l (site.disk old) (site.disk mid) e c.draw-2.new.self c.flush_found.new.numbers v s.holds at c.requires.bounded.some most flushes keeps next.0 next.1 in
+    let live = live_after flush.tables flush.applies h m l (site.disk old) (site.disk mid) e c.draw-2.new.self c.flush_found.new.numbers v s.holds at c.requires.bounded.some most flushes keeps next.0 next.1
     c.in_ok-log.log c.next.result at_log c.next.ensures.value in
-    let tables = λ (maps : Maps) (first : maps 0 ≡ m). tables_after flush.tables flush.applies found h m l (site.disk old) (site.disk mid) e c.draw-2.new.self c.flush_found.new.numbers v s at c.requires.bounded.some most flushes keeps next.0 next.1
+    let tables = λ (maps : Maps) (first : maps 0 ≡ m). tables_after flush.tables flush.applies h m l (site.disk old) (site.disk mid) e c.draw-2.new.self c.flush_found.new.numbers v s.holds at c.requires.bounded.some most flushes keeps next.0 next.1
     maps c.in_ok-log.log first at_log in
     let rests = rests_now site found h m l old s (g.met.S.Site.only_now shown old) c.drawn_files_let_disks_rest.ensures.rest laws.cuts mid c.draw-2.new.self at keeps c.flush_found.ensures.idle in
     let spare : IsSpareFor found (Manifest c.in_ok-manifest.manifest) = subst (λ (n : ℕ). IsSpareFor found (Manifest n)) (sym at_manifest) (manifest_spare laws.numbers l.first found s.below) in
@@ -188,10 +190,10 @@ returns-clause-sides g c = λ shown found h m s.
     let next = c.in_ok-version.ensures.next in
     let e = c.in_ok-edit.edit in
     let v = c.in_ok-version.version in
-    let h_after = after flush.tables flush.applies found h m l (site.disk old) (site.disk mid) e c.draw-2.new.self c.flush_found.new.numbers v s at c.requires.bounded.some most flushes keeps next.0 next.1 in
-    let live = live_after flush.tables flush.applies found h m l (site.disk old) (site.disk mid) e c.draw-2.new.self c.flush_found.new.numbers v s at c.requires.bounded.some most flushes keeps next.0 next.1
+    let h_after = after flush.tables flush.applies h m l (site.disk old) (site.disk mid) e c.draw-2.new.self c.flush_found.new.numbers v s.holds at c.requires.bounded.some most flushes keeps next.0 next.1 in
+    let live = live_after flush.tables flush.applies h m l (site.disk old) (site.disk mid) e c.draw-2.new.self c.flush_found.new.numbers v s.holds at c.requires.bounded.some most flushes keeps next.0 next.1
     c.in_ok-log.log c.next.result at_log c.next.ensures.value in
-    let tables = λ (maps : Maps) (first : maps 0 ≡ m). tables_after flush.tables flush.applies found h m l (site.disk old) (site.disk mid) e c.draw-2.new.self c.flush_found.new.numbers v s at c.requires.bounded.some most flushes keeps next.0 next.1
+    let tables = λ (maps : Maps) (first : maps 0 ≡ m). tables_after flush.tables flush.applies h m l (site.disk old) (site.disk mid) e c.draw-2.new.self c.flush_found.new.numbers v s.holds at c.requires.bounded.some most flushes keeps next.0 next.1
     maps c.in_ok-log.log first at_log in
     let rests = rests_now site found h m l old s (g.met.S.Site.only_now shown old) c.drawn_files_let_disks_rest.ensures.rest laws.cuts mid c.draw-2.new.self at keeps c.flush_found.ensures.idle in
     let spare : IsSpareFor found (Manifest c.in_ok-manifest.manifest) = subst (λ (n : ℕ). IsSpareFor found (Manifest n)) (sym at_manifest) (manifest_spare laws.numbers l.first found s.below) in
@@ -219,10 +221,10 @@ returns-clause-cuts g c = λ shown sure found h m s.
     let next = c.in_ok-version.ensures.next in
     let e = c.in_ok-edit.edit in
     let v = c.in_ok-version.version in
-    let h_after = after flush.tables flush.applies found h m l (site.disk old) (site.disk mid) e c.draw-2.new.self c.flush_found.new.numbers v s at c.requires.bounded.some most flushes keeps next.0 next.1 in
-    let live = live_after flush.tables flush.applies found h m l (site.disk old) (site.disk mid) e c.draw-2.new.self c.flush_found.new.numbers v s at c.requires.bounded.some most flushes keeps next.0 next.1
+    let h_after = after flush.tables flush.applies h m l (site.disk old) (site.disk mid) e c.draw-2.new.self c.flush_found.new.numbers v s.holds at c.requires.bounded.some most flushes keeps next.0 next.1 in
+    let live = live_after flush.tables flush.applies h m l (site.disk old) (site.disk mid) e c.draw-2.new.self c.flush_found.new.numbers v s.holds at c.requires.bounded.some most flushes keeps next.0 next.1
     c.in_ok-log.log c.next.result at_log c.next.ensures.value in
-    let tables = λ (maps : Maps) (first : maps 0 ≡ m). tables_after flush.tables flush.applies found h m l (site.disk old) (site.disk mid) e c.draw-2.new.self c.flush_found.new.numbers v s at c.requires.bounded.some most flushes keeps next.0 next.1
+    let tables = λ (maps : Maps) (first : maps 0 ≡ m). tables_after flush.tables flush.applies h m l (site.disk old) (site.disk mid) e c.draw-2.new.self c.flush_found.new.numbers v s.holds at c.requires.bounded.some most flushes keeps next.0 next.1
     maps c.in_ok-log.log first at_log in
     let rests = rests_now site found h m l old s (g.met.S.Site.only_now shown old) c.drawn_files_let_disks_rest.ensures.rest laws.cuts mid c.draw-2.new.self at keeps c.flush_found.ensures.idle in
     let spare : IsSpareFor found (Manifest c.in_ok-manifest.manifest) = subst (λ (n : ℕ). IsSpareFor found (Manifest n)) (sym at_manifest) (manifest_spare laws.numbers l.first found s.below) in
@@ -247,44 +249,40 @@ returns-clause-settled g c = λ shown found h m s.
     let next = c.in_ok-version.ensures.next in
     let e = c.in_ok-edit.edit in
     let v = c.in_ok-version.version in
-    let h_after = after flush.tables flush.applies found h m l (site.disk old) (site.disk mid) e c.draw-2.new.self c.flush_found.new.numbers v s at c.requires.bounded.some most flushes keeps next.0 next.1 in
-    let live = live_after flush.tables flush.applies found h m l (site.disk old) (site.disk mid) e c.draw-2.new.self c.flush_found.new.numbers v s at c.requires.bounded.some most flushes keeps next.0 next.1
+    let h_after = after flush.tables flush.applies h m l (site.disk old) (site.disk mid) e c.draw-2.new.self c.flush_found.new.numbers v s.holds at c.requires.bounded.some most flushes keeps next.0 next.1 in
+    let live = live_after flush.tables flush.applies h m l (site.disk old) (site.disk mid) e c.draw-2.new.self c.flush_found.new.numbers v s.holds at c.requires.bounded.some most flushes keeps next.0 next.1
     c.in_ok-log.log c.next.result at_log c.next.ensures.value in
-    let tables = λ (maps : Maps) (first : maps 0 ≡ m). tables_after flush.tables flush.applies found h m l (site.disk old) (site.disk mid) e c.draw-2.new.self c.flush_found.new.numbers v s at c.requires.bounded.some most flushes keeps next.0 next.1
+    let tables = λ (maps : Maps) (first : maps 0 ≡ m). tables_after flush.tables flush.applies h m l (site.disk old) (site.disk mid) e c.draw-2.new.self c.flush_found.new.numbers v s.holds at c.requires.bounded.some most flushes keeps next.0 next.1
     maps c.in_ok-log.log first at_log in
     let rests = rests_now site found h m l old s (g.met.S.Site.only_now shown old) c.drawn_files_let_disks_rest.ensures.rest laws.cuts mid c.draw-2.new.self at keeps c.flush_found.ensures.idle in
     let spare : IsSpareFor found (Manifest c.in_ok-manifest.manifest) = subst (λ (n : ℕ). IsSpareFor found (Manifest n)) (sym at_manifest) (manifest_spare laws.numbers l.first found s.below) in
     c.start_store.ensures.settled shown found (λ n. m) h_after rests spare (tables (λ n. m) refl) live
 
 pub returns-clause-opened : goal.returns-clause-opened
-returns-clause-opened g c = λ shown found h m s maps first.
+returns-clause-opened g c = λ shown names below h m s maps first.
     let site = g.S.Site in
-    let laws = c.barriers_let_disks_rest.ensures in
     let flush = c.flushed_tables_make_the_map.ensures in
     let l = c.args.loaded in
-    let old = c.args.site.now in
-    let mid = c.flush_found.new.site in
+    let old = as_synced names (site.disk c.args.site.now) in
+    let mid = as_synced names (site.disk c.flush_found.new.site) in
     let at : c.draw-2.new.self ≡ l.first + 2 = omega (arith, c.in_ok-log.ensures.drawn.2, c.in_ok-manifest.ensures.drawn.2, c.from-numbers.ensures) in
     let at_log : c.in_ok-log.log ≡ l.first + 1 = c.in_ok-log.ensures.drawn.0 ∙ c.in_ok-manifest.ensures.drawn.2 ∙ ap (λ (n : ℕ). n + 1) c.from-numbers.ensures in
-    let at_manifest : c.in_ok-manifest.manifest ≡ l.first = c.in_ok-manifest.ensures.drawn.0 ∙ c.from-numbers.ensures in
     let most : c.flush_found.new.numbers ≤ 10 ^ 15 = omega (arith, c.next.ensures.value, c.next.ensures.bound) in
-    let flushes = c.in_ok-edit.ensures.flushes shown in
-    let keeps = c.flush_found.ensures.others shown in
+    let flushes = flushes_synced c.names_one.ensures l.first c.draw-2.new.self c.flush_found.new.numbers names l.options l.memory (site.disk c.flush_found.new.site) c.in_ok-edit.edit below c.requires.bounded.some (omega (arith, at)) most (c.in_ok-edit.ensures.flushes shown) in
+    let keeps = others_synced c.draw-2.new.self names (site.disk c.args.site.now) (site.disk c.flush_found.new.site) (c.flush_found.ensures.others shown) in
     let next = c.in_ok-version.ensures.next in
     let e = c.in_ok-edit.edit in
     let v = c.in_ok-version.version in
-    let h_after = after flush.tables flush.applies found h m l (site.disk old) (site.disk mid) e c.draw-2.new.self c.flush_found.new.numbers v s at c.requires.bounded.some most flushes keeps next.0 next.1 in
-    let live = live_after flush.tables flush.applies found h m l (site.disk old) (site.disk mid) e c.draw-2.new.self c.flush_found.new.numbers v s at c.requires.bounded.some most flushes keeps next.0 next.1
+    let h_after = after flush.tables flush.applies h m l old mid e c.draw-2.new.self c.flush_found.new.numbers v s at c.requires.bounded.some most flushes keeps next.0 next.1 in
+    let live = live_after flush.tables flush.applies h m l old mid e c.draw-2.new.self c.flush_found.new.numbers v s at c.requires.bounded.some most flushes keeps next.0 next.1
     c.in_ok-log.log c.next.result at_log c.next.ensures.value in
-    let tables = λ (maps : Maps) (first : maps 0 ≡ m). tables_after flush.tables flush.applies found h m l (site.disk old) (site.disk mid) e c.draw-2.new.self c.flush_found.new.numbers v s at c.requires.bounded.some most flushes keeps next.0 next.1
+    let tables = λ (maps : Maps) (first : maps 0 ≡ m). tables_after flush.tables flush.applies h m l old mid e c.draw-2.new.self c.flush_found.new.numbers v s at c.requires.bounded.some most flushes keeps next.0 next.1
     maps c.in_ok-log.log first at_log in
-    let rests = rests_now site found h m l old s (g.met.S.Site.only_now shown old) c.drawn_files_let_disks_rest.ensures.rest laws.cuts mid c.draw-2.new.self at keeps c.flush_found.ensures.idle in
-    let spare : IsSpareFor found (Manifest c.in_ok-manifest.manifest) = subst (λ (n : ℕ). IsSpareFor found (Manifest n)) (sym at_manifest) (manifest_spare laws.numbers l.first found s.below) in
     record {
       holding = h_after;
       live = live;
       batches = (tables maps first).batches;
-      steady = c.in_ok-manifest-2.ensures.steady shown maps h_after (tables maps first) live;
+      steady = c.in_ok-manifest-2.ensures.steady shown names l.first below maps h_after (tables maps first) live;
     }
 
 pub returns-clause-adds : goal.returns-clause-adds

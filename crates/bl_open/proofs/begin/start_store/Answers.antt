@@ -1,4 +1,4 @@
-use Rattle.std.proofs.Common.{◌∙◌}
+use Rattle.std.proofs.Common.{[], ◌∙◌}
 use Rattle.bl_wal.specs.LogFile.{log_name}
 use Rattle.bl_open.proofs.StartLemmas.{log_may, side_before, then_side, then_stands}
 use Rattle.bl_open.proofs.begin.start_store.Goals as goal
@@ -24,7 +24,7 @@ returns-in_err-made-clause-sides g c = λ shown found maps h rests spare t live.
     let may = log_may found maps c.args.log h disk c.requires.log t in
     then_side g.S.Site (log_name c.args.log) (maps 0) c.args.site.now c.make_log.new.site c.install_store.new.site (first.tells_nothing.told shown)
     (side_before g.S.Site (log_name c.args.log) (maps 0) c.args.site.now c.make_log.new.site (first.before shown))
-    (c.install_store.ensures.cuts shown (c.in_ok-wal.ensures.certain shown) found maps c.args.log h live (c.in_ok-wal.ensures.begins shown maps h t) (first.rests shown found (maps 0) may rests) spare)
+    (c.install_store.ensures.cuts shown (c.in_ok-wal.ensures.certain shown) found maps c.args.log h live (c.in_ok-wal.ensures.begins shown [] 0 tt maps h t) (first.rests shown found (maps 0) may rests) spare)
 
 pub returns-in_err-made-clause-cuts : goal.returns-in_err-made-clause-cuts
 returns-in_err-made-clause-cuts g c = λ shown sure found maps h rests spare t live.
@@ -33,12 +33,12 @@ returns-in_err-made-clause-cuts g c = λ shown sure found maps h rests spare t l
     let may = log_may found maps c.args.log h disk c.requires.log t in
     then_stands g.S.Site (log_name c.args.log) (maps 0) c.args.site.now c.make_log.new.site c.install_store.new.site (first.tells_nothing.told shown)
     (first.cuts shown sure found (maps 0) may rests)
-    (c.install_store.ensures.cuts shown (c.in_ok-wal.ensures.certain shown) found maps c.args.log h live (c.in_ok-wal.ensures.begins shown maps h t) (first.rests shown found (maps 0) may rests) spare)
+    (c.install_store.ensures.cuts shown (c.in_ok-wal.ensures.certain shown) found maps c.args.log h live (c.in_ok-wal.ensures.begins shown [] 0 tt maps h t) (first.rests shown found (maps 0) may rests) spare)
 
 pub returns-in_err-made-clause-settled : goal.returns-in_err-made-clause-settled
 returns-in_err-made-clause-settled g c = λ shown found maps h rests spare t live.
     let may = log_may found maps c.args.log h (g.S.Site.disk c.args.site.now) c.requires.log t in
-    c.install_store.ensures.settled shown found maps c.args.log h live (c.in_ok-wal.ensures.begins shown maps h t) (c.make_log.ensures.rests shown found (maps 0) may rests) spare
+    c.install_store.ensures.settled shown found maps c.args.log h live (c.in_ok-wal.ensures.begins shown [] 0 tt maps h t) (c.make_log.ensures.rests shown found (maps 0) may rests) spare
 
 pub returns-clause-sides : goal.returns-clause-sides
 returns-clause-sides g c = λ shown found maps h rests spare t live.
@@ -46,7 +46,7 @@ returns-clause-sides g c = λ shown found maps h rests spare t live.
     let may = log_may found maps c.args.log h (g.S.Site.disk c.args.site.now) c.requires.log t in
     then_side g.S.Site (log_name c.args.log) (maps 0) c.args.site.now c.make_log.new.site c.install_store.new.site (first.tells_nothing.told shown)
     (side_before g.S.Site (log_name c.args.log) (maps 0) c.args.site.now c.make_log.new.site (first.before shown))
-    (c.install_store.ensures.cuts shown (c.in_ok-wal.ensures.certain shown) found maps c.args.log h live (c.in_ok-wal.ensures.begins shown maps h t) (first.rests shown found (maps 0) may rests) spare)
+    (c.install_store.ensures.cuts shown (c.in_ok-wal.ensures.certain shown) found maps c.args.log h live (c.in_ok-wal.ensures.begins shown [] 0 tt maps h t) (first.rests shown found (maps 0) may rests) spare)
 
 pub returns-clause-cuts : goal.returns-clause-cuts
 returns-clause-cuts g c = λ shown sure found maps h rests spare t live.
@@ -54,15 +54,15 @@ returns-clause-cuts g c = λ shown sure found maps h rests spare t live.
     let may = log_may found maps c.args.log h (g.S.Site.disk c.args.site.now) c.requires.log t in
     then_stands g.S.Site (log_name c.args.log) (maps 0) c.args.site.now c.make_log.new.site c.install_store.new.site (first.tells_nothing.told shown)
     (first.cuts shown sure found (maps 0) may rests)
-    (c.install_store.ensures.cuts shown (c.in_ok-wal.ensures.certain shown) found maps c.args.log h live (c.in_ok-wal.ensures.begins shown maps h t) (first.rests shown found (maps 0) may rests) spare)
+    (c.install_store.ensures.cuts shown (c.in_ok-wal.ensures.certain shown) found maps c.args.log h live (c.in_ok-wal.ensures.begins shown [] 0 tt maps h t) (first.rests shown found (maps 0) may rests) spare)
 
 pub returns-clause-settled : goal.returns-clause-settled
 returns-clause-settled g c = λ shown found maps h rests spare t live.
     let may = log_may found maps c.args.log h (g.S.Site.disk c.args.site.now) c.requires.log t in
-    c.install_store.ensures.settled shown found maps c.args.log h live (c.in_ok-wal.ensures.begins shown maps h t) (c.make_log.ensures.rests shown found (maps 0) may rests) spare
+    c.install_store.ensures.settled shown found maps c.args.log h live (c.in_ok-wal.ensures.begins shown [] 0 tt maps h t) (c.make_log.ensures.rests shown found (maps 0) may rests) spare
 
 pub returns-clause-steady : goal.returns-clause-steady
-returns-clause-steady g c = λ shown maps h t live. c.in_ok-made.ensures.steady shown maps c.args.log h live (c.in_ok-wal.ensures.begins shown maps h t)
+returns-clause-steady g c = λ shown names from below maps h t live. c.in_ok-made.ensures.steady shown names from below maps c.args.log h live (c.in_ok-wal.ensures.begins shown names from below maps h t)
 
 pub returns-in_err-wal-clause-others : goal.returns-in_err-wal-clause-others
 returns-in_err-wal-clause-others g c = λ shown name none. c.make_log.ensures.touches.others shown name (none.0, tt)

@@ -1,11 +1,14 @@
 use Rattle.std.proofs.Common.{[], inr, refl}
 use Rattle.bl_site.specs.Calls.{Creates}
 use Rattle.bl_names.specs.declared.name.FileName.TheVariants.{Log}
-use Rattle.bl_wal.specs.LogFile.{log_name}
+use Rattle.bl_wal.specs.LogFile.{log_name, new_log}
 use Rattle.bl_out.proofs.QuietLemmas.{create_stays, touches_named}
 use Rattle.bl_open.specs.Found.{RestsAs}
 use Rattle.bl_open.proofs.MomentLemmas.{made_before, rest_call, rest_start}
 use Rattle.bl_open.proofs.OutcomeLemmas.{files_stay_any, log_outcome}
+use Rattle.bl_open.proofs.FrameLemmas.{same_held}
+use Rattle.bl_open.proofs.SyncedLemmas.{creates_synced, unsynced_at}
+use Rattle.bl_open.specs.Synced.{as_synced}
 use Rattle.bl_open.proofs.files.make_log.Goals as goal
 
 pub returns-in_err-wal-clause-before : goal.returns-in_err-wal-clause-before
@@ -81,5 +84,10 @@ returns-clause-cuts g c = λ shown sure found m may r.
     (λ after made. laws.files found m (Log c.args.number) (s.disk old) after c.requires.number may made r) (c.create.ensures.time shown)
 
 pub returns-clause-begins : goal.returns-clause-begins
-returns-clause-begins g c = λ shown maps h t.
-    c.stores_begin.ensures.logs maps c.args.number h (g.S.Site.disk c.args.site.now) (g.S.Site.disk c.create.new.site) c.requires.number t (c.in_ok-wal.ensures.created shown) (c.in_ok-wal.ensures.holds shown)
+returns-clause-begins g c = λ shown names from below maps h t.
+    let one = c.names_one.ensures in
+    let old = g.S.Site.disk c.args.site.now in
+    let new = g.S.Site.disk c.create.new.site in
+    c.stores_begin.ensures.logs maps c.args.number h (as_synced names old) (as_synced names new) c.requires.number t
+    (creates_synced one from names old new (Log c.args.number) below c.requires.number tt (c.in_ok-wal.ensures.created shown))
+    (same_held new (as_synced names new) (new_log c.args.number) [] 0 (unsynced_at one from names new (Log c.args.number) below c.requires.number tt) (c.in_ok-wal.ensures.holds shown))

@@ -1,4 +1,5 @@
 use Rattle.std.proofs.Common.{◌≡◌, ◌∷◌, [], ap, sym, subst}
+use Rattle.bl_names.specs.declared.name.FileName.TheVariants.{Manifest}
 use Rattle.bl_names.specs.Names.{IsNumber, manifest_name}
 use Rattle.bl_manifest.specs.Held.{HoldsEdits}
 use Rattle.bl_manifest.specs.ManifestFile.{ManifestFile, record_bytes}
@@ -7,6 +8,9 @@ use Rattle.bl_out.proofs.QuietLemmas.{touches_named}
 use Rattle.bl_open.specs.SteadyCalls.{KeepsAllBut}
 use Rattle.bl_open.proofs.OutcomeLemmas.{manifest_others}
 use Rattle.bl_open.proofs.TouchLemmas.{others_stay}
+use Rattle.bl_open.proofs.FrameLemmas.{same_edits}
+use Rattle.bl_open.proofs.SyncedLemmas.{keeps_synced, unsynced_at}
+use Rattle.bl_open.specs.Synced.{as_synced}
 use Rattle.bl_open.proofs.files.make_manifest.Goals as goal
 
 pub returns-in_err-made-clause-touches : goal.returns-in_err-made-clause-touches
@@ -40,13 +44,16 @@ returns-clause-holds g c = λ shown.
     subst (λ (m : ManifestFile). HoldsEdits (g.S.Site.disk c.create.new.site) m (c.args.edit.now ∷ []) 1) (sym c.in_ok-made.ensures.made) (c.in_ok-made.ensures.holds shown)
 
 pub returns-clause-ready : goal.returns-clause-ready
-returns-clause-ready g c = λ shown maps log h b restores.
+returns-clause-ready g c = λ shown names from below maps log h b restores.
+    let one = c.names_one.ensures in
     let old = g.S.Site.disk c.args.site.now in
     let new = g.S.Site.disk c.create.new.site in
     let e = c.args.edit.now in
     let made = c.in_ok-made.made in
     let is = c.in_ok-made.ensures.made in
     let number : made.number ≡ c.args.number = ap (λ (m : ManifestFile). m.number) is in
-    c.stores_begin.ensures.ready maps log h e made old new b (subst IsNumber (sym number) c.requires.number) restores
-    (subst (λ (k : _). KeepsAllBut (manifest_name k) old new) (sym number) (c.in_ok-made.ensures.created shown).others)
-    (subst (λ (m : ManifestFile). HoldsEdits new m (e ∷ []) 1) (sym is) (c.in_ok-made.ensures.holds shown))
+    let valid : IsNumber made.number = subst IsNumber (sym number) c.requires.number in
+    c.stores_begin.ensures.ready maps log h e made (as_synced names old) (as_synced names new) b valid restores
+    (keeps_synced names (manifest_name made.number) old new (subst (λ (k : _). KeepsAllBut (manifest_name k) old new) (sym number) (c.in_ok-made.ensures.created shown).others))
+    (same_edits new (as_synced names new) made (e ∷ []) 1 (unsynced_at one from names new (Manifest made.number) below valid tt)
+    (subst (λ (m : ManifestFile). HoldsEdits new m (e ∷ []) 1) (sym is) (c.in_ok-made.ensures.holds shown)))

@@ -16,6 +16,7 @@ use Rattle.bl_open.proofs.MomentLemmas.{rest_start, then_standing}
 use Rattle.bl_open.proofs.NamingLemmas.{current_kept, first_of_three, installed_so, last_of_three, log_stays, manifest_stays}
 use Rattle.bl_open.proofs.RestoreLemmas.{snapshot_restores}
 use Rattle.bl_open.proofs.TouchLemmas.{spares_stand}
+use Rattle.bl_open.specs.Synced.{as_synced}
 use Rattle.bl_open.proofs.install.install_store.Goals as goal
 
 -- no edit was made
@@ -96,7 +97,7 @@ returns-in_err-name_manifest-clause-cuts g c = λ shown sure found maps log h li
     let old = site.disk c.args.site.now in
     let mid = site.disk c.make_manifest.new.site in
     let given : restored_by (c.in_ok-edit.edit ∷ []) ≡ Some h.live = ap (λ (x : Edit). restored_by (x ∷ [])) edit_is ∙ restores ∙ ap Some (sym live) in
-    let ready : IsReady maps (begun made (c.in_ok-edit.edit ∷ []) log h 0) mid = c.in_ok-made.ensures.ready shown maps log h begins given in
+    let ready : IsReady maps (begun made (c.in_ok-edit.edit ∷ []) log h 0) mid = c.in_ok-made.ensures.ready shown [] 0 tt maps log h begins given in
     let rest_mid : RestsAs found (maps 0) mid = laws.touched found (maps 0) (manifest_name number ∷ []) old mid ((Manifest number, (c.requires.number, refl), spare), tt) (c.make_manifest.ensures.touches.others shown) r in
     then_standing site (maps 0) c.args.site.now c.make_manifest.new.site c.name_manifest.new.site (c.make_manifest.ensures.tells_nothing.told shown)
     (spares_stand site laws.left found (maps 0) (manifest_name number ∷ []) c.args.site.now c.make_manifest.new.site ((Manifest number, (c.requires.number, refl), spare), tt) r (c.make_manifest.ensures.touches.cuts shown sure))
@@ -116,7 +117,7 @@ returns-in_err-name_manifest-clause-settled g c = λ shown found maps log h live
     let old = site.disk c.args.site.now in
     let mid = site.disk c.make_manifest.new.site in
     let given : restored_by (c.in_ok-edit.edit ∷ []) ≡ Some h.live = ap (λ (x : Edit). restored_by (x ∷ [])) edit_is ∙ restores ∙ ap Some (sym live) in
-    let ready : IsReady maps (begun made (c.in_ok-edit.edit ∷ []) log h 0) mid = c.in_ok-made.ensures.ready shown maps log h begins given in
+    let ready : IsReady maps (begun made (c.in_ok-edit.edit ∷ []) log h 0) mid = c.in_ok-made.ensures.ready shown [] 0 tt maps log h begins given in
     let rest_mid : RestsAs found (maps 0) mid = laws.touched found (maps 0) (manifest_name number ∷ []) old mid ((Manifest number, (c.requires.number, refl), spare), tt) (c.make_manifest.ensures.touches.others shown) r in
     c.name_manifest.ensures.settled shown maps made (c.in_ok-edit.edit ∷ []) log h is (ap (λ (m : ManifestFile). m.failed) c.in_ok-made.ensures.new) ready found rest_mid
 
@@ -160,7 +161,7 @@ returns-clause-cuts g c = λ shown sure found maps log h live begins r spare.
     let old = site.disk c.args.site.now in
     let mid = site.disk c.make_manifest.new.site in
     let given : restored_by (c.in_ok-edit.edit ∷ []) ≡ Some h.live = ap (λ (x : Edit). restored_by (x ∷ [])) edit_is ∙ restores ∙ ap Some (sym live) in
-    let ready : IsReady maps (begun made (c.in_ok-edit.edit ∷ []) log h 0) mid = c.in_ok-made.ensures.ready shown maps log h begins given in
+    let ready : IsReady maps (begun made (c.in_ok-edit.edit ∷ []) log h 0) mid = c.in_ok-made.ensures.ready shown [] 0 tt maps log h begins given in
     let rest_mid : RestsAs found (maps 0) mid = laws.touched found (maps 0) (manifest_name number ∷ []) old mid ((Manifest number, (c.requires.number, refl), spare), tt) (c.make_manifest.ensures.touches.others shown) r in
     then_standing site (maps 0) c.args.site.now c.make_manifest.new.site c.name_manifest.new.site (c.make_manifest.ensures.tells_nothing.told shown)
     (spares_stand site laws.left found (maps 0) (manifest_name number ∷ []) c.args.site.now c.make_manifest.new.site ((Manifest number, (c.requires.number, refl), spare), tt) r (c.make_manifest.ensures.touches.cuts shown sure))
@@ -180,7 +181,7 @@ returns-clause-settled g c = λ shown found maps log h live begins r spare.
     let old = site.disk c.args.site.now in
     let mid = site.disk c.make_manifest.new.site in
     let given : restored_by (c.in_ok-edit.edit ∷ []) ≡ Some h.live = ap (λ (x : Edit). restored_by (x ∷ [])) edit_is ∙ restores ∙ ap Some (sym live) in
-    let ready : IsReady maps (begun made (c.in_ok-edit.edit ∷ []) log h 0) mid = c.in_ok-made.ensures.ready shown maps log h begins given in
+    let ready : IsReady maps (begun made (c.in_ok-edit.edit ∷ []) log h 0) mid = c.in_ok-made.ensures.ready shown [] 0 tt maps log h begins given in
     let rest_mid : RestsAs found (maps 0) mid = laws.touched found (maps 0) (manifest_name number ∷ []) old mid ((Manifest number, (c.requires.number, refl), spare), tt) (c.make_manifest.ensures.touches.others shown) r in
     c.name_manifest.ensures.settled shown maps made (c.in_ok-edit.edit ∷ []) log h is (ap (λ (m : ManifestFile). m.failed) c.in_ok-made.ensures.new) ready found rest_mid
 
@@ -218,7 +219,7 @@ returns-clause-installed g c = λ shown.
     (c.in_ok-name_manifest.ensures.current shown)
 
 pub returns-clause-steady : goal.returns-clause-steady
-returns-clause-steady g c = λ shown maps log h live begins.
+returns-clause-steady g c = λ shown names from below maps log h live begins.
     let site = g.S.Site in
     let laws = c.barriers_let_disks_rest.ensures in
     let number = c.args.number in
@@ -231,9 +232,9 @@ returns-clause-steady g c = λ shown maps log h live begins.
     let old = site.disk c.args.site.now in
     let mid = site.disk c.make_manifest.new.site in
     let given : restored_by (c.in_ok-edit.edit ∷ []) ≡ Some h.live = ap (λ (x : Edit). restored_by (x ∷ [])) edit_is ∙ restores ∙ ap Some (sym live) in
-    let ready : IsReady maps (begun made (c.in_ok-edit.edit ∷ []) log h 0) mid = c.in_ok-made.ensures.ready shown maps log h begins given in
+    let ready : IsReady maps (begun made (c.in_ok-edit.edit ∷ []) log h 0) (as_synced names mid) = c.in_ok-made.ensures.ready shown names from below maps log h begins given in
     let new = site.disk c.name_manifest.new.site in
-    subst (λ (x : Edit). IsSteady maps (begun made (x ∷ []) log h 0) new) edit_is (c.in_ok-name_manifest.ensures.steady shown maps made (c.in_ok-edit.edit ∷ []) log h is ready)
+    subst (λ (x : Edit). IsSteady maps (begun made (x ∷ []) log h 0) (as_synced names new)) edit_is (c.in_ok-name_manifest.ensures.steady shown names from below maps made (c.in_ok-edit.edit ∷ []) log h is ready)
 
 pub returns-in_err-edit-clause-either : goal.returns-in_err-edit-clause-either
 returns-in_err-edit-clause-either g c = λ shown. inl refl

@@ -14,6 +14,8 @@ use Rattle.bl_open.proofs.MomentLemmas.{rest_start, then_standing}
 use Rattle.bl_open.proofs.NamingLemmas.{both_touched, current_apart, has_current, has_text, renames_so, temp_name, temp_touches}
 use Rattle.bl_open.proofs.OutcomeLemmas.{on_ok_of}
 use Rattle.bl_open.proofs.TouchLemmas.{keeps_but, spares_stand}
+use Rattle.bl_open.proofs.SyncedLemmas.{keeps_synced, renames_synced, unsynced_at}
+use Rattle.bl_open.specs.Synced.{as_synced}
 use Rattle.bl_open.proofs.install.name_manifest.Goals as goal
 
 pub returns-in_err-temp-clause-touches : goal.returns-in_err-temp-clause-touches
@@ -108,7 +110,8 @@ returns-clause-current g c = λ shown.
     (renames_so number c.as_str-2.result.now c.as_str-3.result.now mid new (c.as_str-2.ensures.value ∙ c.in_ok-temp.ensures) (c.as_str-3.ensures.value ∙ c.in_ok-current.ensures) did))
 
 pub returns-clause-steady : goal.returns-clause-steady
-returns-clause-steady g c = λ shown maps made edits log h is ready.
+returns-clause-steady g c = λ shown names from below maps made edits log h is ready.
+    let one = c.names_one.ensures in
     let site = g.S.Site in
     let number = c.args.number in
     let name = c.as_str.result.now in
@@ -119,11 +122,19 @@ returns-clause-steady g c = λ shown maps made edits log h is ready.
     let new = site.disk c.rename_current.new.site in
     let s : Steady = begun made edits log h 0 in
     let others : KeepsAllBut (name_of (Temp number)) old mid = subst (λ (n : Name). KeepsAllBut n old mid) named (keeps_but name old mid (c.write_temp.ensures.touches.others shown)) in
-    let ready_mid : IsReady maps s mid = c.renames_make_disks_steady.ensures.ready maps s number old mid c.requires.number others ready in
+    let ready_mid : IsReady maps s (as_synced names mid) =
+    c.renames_make_disks_steady.ensures.ready maps s number (as_synced names old) (as_synced names mid) c.requires.number (keeps_synced names (name_of (Temp number)) old mid others) ready in
     let has : HasText number made.number mid = has_text number made.number name text old mid named (c.as_slice.ensures ∙ c.in_ok-text.ensures ∙ ap current_text (sym is)) (c.in_ok-write_temp.ensures.made shown) in
+    let has_now : HasText number made.number (as_synced names mid) = record {
+      text = has.text;
+      there = unsynced_at one from names mid (Temp number) below c.requires.number tt ∙ has.there;
+      synced = has.synced;
+      reads = has.reads;
+    } in
     on_ok_of c.rename_current.result _ _ (c.rename_current.ensures.done shown)
-    (λ did. c.renames_make_disks_steady.ensures.after maps s number mid new ready_mid c.requires.number has
-    (renames_so number c.as_str-2.result.now c.as_str-3.result.now mid new (c.as_str-2.ensures.value ∙ c.in_ok-temp.ensures) (c.as_str-3.ensures.value ∙ c.in_ok-current.ensures) did))
+    (λ did. c.renames_make_disks_steady.ensures.after maps s number (as_synced names mid) (as_synced names new) ready_mid c.requires.number has_now
+    (renames_synced one from names mid new (Temp number) Current below c.requires.number tt tt tt
+    (renames_so number c.as_str-2.result.now c.as_str-3.result.now mid new (c.as_str-2.ensures.value ∙ c.in_ok-temp.ensures) (c.as_str-3.ensures.value ∙ c.in_ok-current.ensures) did)))
 
 pub returns-clause-cuts : goal.returns-clause-cuts
 returns-clause-cuts g c = λ shown sure maps made edits log h is ready none found r.

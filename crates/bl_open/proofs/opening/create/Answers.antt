@@ -24,8 +24,7 @@ returns-clause-takes g c = λ shown.
     subst (λ (f : Folder). IfOk c.create_among.result (TakesFresh f c.args.options.now)) same (c.create_among.ensures.takes shown)
 
 pub returns-clause-opened : goal.returns-clause-opened
-returns-clause-opened g c = λ shown settled maps first.
-    c.create_among.ensures.opened shown (subst IsSettled (sym (c.list_files.ensures.quiet.stays shown).same) settled) maps first
+returns-clause-opened g c = λ shown maps first. c.create_among.ensures.opened shown maps first
 
 pub returns-clause-cuts : goal.returns-clause-cuts
 returns-clause-cuts g c = λ shown settled.

@@ -14,7 +14,7 @@ use Rattle.bl_open.proofs.FullLemmas.{fresh_enough, on_ok}
 use Rattle.bl_open.proofs.KeepLemmas.{begun_kept}
 use Rattle.bl_open.proofs.MomentLemmas.{all_behind}
 use Rattle.bl_open.proofs.OpenedLemmas.{each_and, each_ok, new_or_found, nothing_passes}
-use Rattle.bl_open.proofs.StartingLemmas.{starts_fresh}
+use Rattle.bl_open.proofs.StartingLemmas.{holds_fresh, starts_fresh}
 use Rattle.bl_open.specs.Beginning.{AddsFlush, IsNumbered, IsWithin, first_file}
 use Rattle.bl_open.specs.Fresh.{no_holding}
 use Rattle.bl_open.specs.Recovering.{IsFullFresh, TakesFresh}
@@ -44,15 +44,15 @@ pub begin-requires-clause-below : goal.begin-requires-clause-below
 begin-requires-clause-below g c = λ shown. subst (λ (v : Listing). IsBelow c.first_number.result v) (sym c.empty-version.ensures) (record { tables = tt; blobs = tt })
 
 pub returns-clause-opened : goal.returns-clause-opened
-returns-clause-opened g c = λ shown settled maps at_first.
+returns-clause-opened g c = λ shown maps at_first.
     let disk = g.S.Site.disk c.args.site.now in
     let l : Loaded = record { version = c.empty-version.result; options = c.args.options; memory = c.start.result; last = 0; first = c.first_number.result } in
     let is : IsVersion nothing = subst IsVersion c.empty-version.ensures c.version_is_in_order.ensures in
     let some : 1 ≤ 1 = omega arith in
     let first = c.first_number.ensures.first (folder_of disk) nothing is (nothing_passes (folder_of disk)) (c.requires.listed shown) (inl some) in
     let h : Holding = no_holding (record { log_number = l.first; next_file = l.first; last_sequence = 0; options = l.options }) in
-    let s = starts_fresh c.barriers_let_disks_rest.ensures.fresh c.stores_begin.ensures.fresh c.memories_tell_what_was_inserted.ensures.memory c.batches_are_held.ensures.none disk l settled (c.requires.fresh shown) is first c.empty-version.ensures c.start.ensures refl in
-    c.begin.ensures.opened shown None h empty s maps at_first
+    let s = holds_fresh c.stores_begin.ensures.fresh c.memories_tell_what_was_inserted.ensures.memory c.batches_are_held.ensures.none disk l is first c.empty-version.ensures c.start.ensures refl in
+    c.begin.ensures.opened shown [] tt h empty s maps at_first
 
 pub returns-clause-cuts : goal.returns-clause-cuts
 returns-clause-cuts g c = λ shown settled.

@@ -1,4 +1,4 @@
-use Rattle.std.proofs.Common.{◌≡◌, ◌∙◌, List, None, inl, Err, ap, sym, subst}
+use Rattle.std.proofs.Common.{◌≡◌, ◌∙◌, List, [], None, inl, Err, ap, sym, subst}
 use Rattle.std.proofs.lemmas.Result.{err_from_is_err_and}
 use Rattle.std.specs.FinMap.{empty}
 use Rattle.std.specs.Prelude.{IfErr, IfOk, OnOk}
@@ -20,6 +20,7 @@ use Rattle.bl_names.specs.declared.name.FileName.{FileName}
 use Rattle.bl_names.specs.declared.name.FileName.TheVariants.{Current}
 use Rattle.bl_out.specs.Files.{file}
 use Rattle.bl_open.specs.Listing.{AreListed, IsFirstStray}
+use Rattle.bl_open.specs.Beginning.{IsOpened, IsOpenedAsSynced}
 use Rattle.bl_open.specs.Recovering.{CutsAtBarrier, IsFull, IsFullFresh, IsRefusal, TakesFresh, TakesOver}
 use Rattle.bl_open.specs.declared.error.OpenErr.TheVariants.{Disk as DiskFailed, OutOfMemory}
 use Rattle.bl_open.proofs.opening.recover.Goals as goal
@@ -187,7 +188,7 @@ returns-clause-opened g c = λ shown settled m stands maps first.
     let stays2 : site.disk c.check_fresh.new.site ≡ site.disk s0 = (c.check_fresh.ensures.quiet.stays shown).same ∙ stays1 in
     let same2 : folder_of (site.disk c.check_fresh.new.site) ≡ folder_of (site.disk s0) = ap folder_of stays2 in
     let fresh : IsFresh (folder_of (site.disk s0)) = subst IsFresh same1 (c.in_ok-check_fresh.ensures.fresh shown) in
-    c.create_among.ensures.opened shown (subst IsSettled (sym stays2) settled) maps (first ∙ fresh_is_empty (folder_of (site.disk s0)) m fresh stands)
+    c.create_among.ensures.opened shown maps (first ∙ fresh_is_empty (folder_of (site.disk s0)) m fresh stands)
 
 pub returns-clause-cuts : goal.returns-clause-cuts
 returns-clause-cuts g c = λ shown settled m stands.
@@ -282,3 +283,15 @@ returns-clause-enough g c = λ shown.
     let fresh : IsFresh folder = subst IsFresh (ap folder_of (c.list_files.ensures.quiet.stays shown).same) (c.in_ok-check_fresh.ensures.fresh shown) in
     on_ok_too c.create_among.result (IsFullFresh folder → ⊥) (IsFull folder c.args.asked.now → ⊥) (fresh_only folder c.args.asked.now fresh)
     (subst (λ (f : Folder). OnOk c.create_among.result (IsFullFresh f → ⊥)) same (c.create_among.ensures.enough shown))
+
+pub returns-then-has_file-clause-begins : goal.returns-then-has_file-clause-begins
+returns-then-has_file-clause-begins g c = λ shown m stands maps first.
+    c.recover_live.ensures.begins shown m (subst (λ (f : Folder). Stands f m) (sym (ap folder_of (c.list_files.ensures.quiet.stays shown).same)) stands) maps first
+
+pub returns-clause-begins : goal.returns-clause-begins
+returns-clause-begins g c = λ shown m stands maps first.
+    let site = g.S.Site in
+    let fresh : IsFresh (folder_of (site.disk c.args.site.now)) = subst IsFresh (ap folder_of (c.list_files.ensures.quiet.stays shown).same) (c.in_ok-check_fresh.ensures.fresh shown) in
+    each_ok c.create_among.result (λ o. IsOpened maps o (site.disk c.create_among.new.site)) (λ o. IsOpenedAsSynced maps o (site.disk c.create_among.new.site))
+    (λ o opened. record { names = []; before = tt; opened = opened })
+    (c.create_among.ensures.opened shown maps (first ∙ fresh_is_empty (folder_of (site.disk c.args.site.now)) m fresh stands))

@@ -1,4 +1,4 @@
-use Rattle.std.proofs.Common.{◌≡◌, ◌⊎◌, ◌∙◌, ℕ, List, inl, inr, Err, Some, IsSome, ap, sym, subst}
+use Rattle.std.proofs.Common.{◌≡◌, ◌⊎◌, ◌∙◌, ℕ, List, inl, inr, Err, Some, IsSome, [], ap, sym, subst}
 use Rattle.std.proofs.lemmas.Result.{err_from_is_err_and}
 use Rattle.bl_site.specs.Disk.{Disk, Folder, folder_of, written_of}
 use Rattle.bl_names.specs.declared.name.FileName.TheVariants.{Manifest}
@@ -21,10 +21,11 @@ use Rattle.bl_open.proofs.MomentLemmas.{all_behind}
 use Rattle.bl_open.proofs.OpenedLemmas.{cause_not_full, cause_silent, each_and, each_ok, new_or_found, no_telling, nothing_cuts, silent_same, some_in, the_logs, then_cuts}
 use Rattle.bl_open.proofs.ReadLemmas.{reads_make_nothing, then_nothing, then_reads}
 use Rattle.bl_open.proofs.RefusalLemmas.{due_of, loaded_not_refused, none_refused}
-use Rattle.bl_open.proofs.StartingLemmas.{live_stands, starts_live}
+use Rattle.bl_open.proofs.StartingLemmas.{held_as_synced, live_stands, starts_live}
 use Rattle.bl_open.specs.Answers.{IsLoading, IsReading}
 use Rattle.bl_open.specs.Barrier.{AreTheLogs, MakesNothing}
-use Rattle.bl_open.specs.Beginning.{AddsFlush, IsNumbered, IsWithin, first_file}
+use Rattle.bl_open.specs.Beginning.{AddsFlush, IsNumbered, IsOpened, IsOpenedAsSynced, IsWithin, first_file}
+use Rattle.bl_open.specs.Synced.{AreFilesBelow, as_synced}
 use Rattle.bl_open.specs.Damage.{NamesManifest}
 use Rattle.bl_open.specs.Found.{RestsAs}
 use Rattle.bl_open.specs.Listing.{AreListed, AreLogs}
@@ -286,7 +287,7 @@ returns-clause-opened g c = λ shown settled m stands maps at_first.
     let rests : RestsAs (Some (c.in_ok-manifest.manifest, loaded.live)) m (site.disk s3) = subst (RestsAs (Some (c.in_ok-manifest.manifest, loaded.live)) m) (sym read) rests2 in
     let s = starts_live c.folders_stand_for_one_map.ensures.live c.folders_stand_for_one_map.ensures.batches c.held_are_whole.ensures c.memories_tell_what_was_inserted.ensures.memory
     (site.disk s3) c.in_ok-manifest.manifest c.args.asked.now l m loaded live rests in
-    c.begin.ensures.opened shown (Some (c.in_ok-manifest.manifest, loaded.live)) live.holding m s maps at_first
+    c.begin.ensures.opened shown [] tt live.holding m s.holds maps at_first
 
 pub returns-clause-cuts : goal.returns-clause-cuts
 returns-clause-cuts g c = λ shown settled m stands.
@@ -429,3 +430,20 @@ returns-clause-enough g c = λ shown.
     on_ok c.begin.result (λ o. TakesOver folder words o × IsNumbered l o) (IsFull folder words → ⊥)
     (λ o both. taken_enough c.folders_stand_for_one_map.ensures.live c.folders_stand_for_one_map.ensures.batches folder words l o both.0 both.1)
     (each_and c.begin.result (TakesOver folder words) (IsNumbered l) (returns-clause-takes g c shown) c.begin.ensures.numbered)
+
+pub returns-clause-begins : goal.returns-clause-begins
+returns-clause-begins g c = λ shown m stands maps at_first.
+    let site = g.S.Site in
+    let l = c.in_ok-loaded.loaded in
+    let manifest = c.in_ok-manifest.manifest in
+    let disk : Disk = site.disk c.load.new.site in
+    let read : folder_of disk ≡ folder_of (site.disk c.sync_found.new.site) = ap folder_of (c.load.ensures.quiet.stays shown).same in
+    let same : folder_of disk ≡ folder_of (site.disk c.args.site.now) = read ∙ c.in_ok-sync_found.ensures.same shown ∙ ap folder_of (c.read_current.ensures.quiet.stays shown).same in
+    let loaded : HasLoaded (folder_of disk) manifest c.args.asked.now l = subst (λ (f : Folder). HasLoaded f manifest c.args.asked.now l) (sym read) (c.in_ok-loaded.ensures.loaded shown) in
+    let live = live_stands (folder_of disk) manifest loaded.live m loaded.is_live (subst (λ (f : Folder). Stands f m) (sym same) stands) in
+    let held = held_as_synced c.folders_stand_for_one_map.ensures.live c.folders_stand_for_one_map.ensures.batches c.held_are_whole.ensures c.memories_tell_what_was_inserted.ensures.memory
+    disk manifest c.args.asked.now l m loaded live in
+    let new : Disk = as_synced held.names (site.disk c.begin.new.site) in
+    each_ok c.begin.result (λ o. IsNumbered l o × IsOpened maps o new) (λ o. IsOpenedAsSynced maps o (site.disk c.begin.new.site))
+    (λ o both. record { names = held.names; before = subst (λ n. AreFilesBelow n held.names) (sym both.0.manifest) held.below; opened = both.1 })
+    (each_and c.begin.result (IsNumbered l) (λ o. IsOpened maps o new) c.begin.ensures.numbered (c.begin.ensures.opened shown held.names held.below held.holding m held.holds maps at_first))
