@@ -1,5 +1,5 @@
 -- One part of a call after another.
-use Rattle.std.proofs.Common.{◌≡◌, ◌⊎◌, inl, inr, ℕ, ◌≤◌, List, length, Bool, true, false, sym, ◌∙◌, subst, arith, Result, Ok, Err, IsErr}
+use Rattle.std.proofs.Common.{◌≡◌, ◌⊎◌, inl, inr, ℕ, ◌≤◌, List, length, Bool, false, sym, subst, arith, Result, Ok, Err, IsErr}
 use Rattle.bl_site.specs.Causes.{Rose}
 use Rattle.bl_site.specs.Disk.{Disk, Name}
 use Rattle.bl_site.specs.declared.site.Site.{Ghosts}
@@ -11,7 +11,7 @@ use Rattle.bl_store.specs.Held.{Held, all_durable, maps_of, with_write}
 use Rattle.bl_store.specs.Standing.{StandsFor}
 use Rattle.bl_store.specs.Calls.{CutsOfCall, LeavesStore, WritesOwn}
 use Rattle.bl_store.specs.declared.error.StoreErr.{StoreErr}
-use Rattle.bl_store.proofs.BreakLemmas.{rose_then, true_false}
+use Rattle.bl_store.proofs.BreakLemmas.{rose_then}
 use Rattle.bl_store.proofs.HeldLemmas.{leaves_agree, leaves_within}
 use Rattle.bl_store.proofs.MomentLemmas.{both_parts}
 
@@ -54,19 +54,6 @@ rose_or a b c (inr same) more = subst (λ n. Rose n c) same more
 pub or_rose : (a b c : ℕ) → Rose a b → Rose b c ⊎ (c ≡ b) → Rose a c
 or_rose a b c rose (inl more) = rose_then a b c rose more
 or_rose a b c rose (inr same) = subst (Rose a) (sym same) rose
-
--- a part that failed, and breaks the store
-pub leaves_broken : {T : Type 0} (names : List Name) (held done : Held) (result : Result T StoreErr) (new after : Stored) (disk : Disk) → IsErr result → after.broken ≡ true → LeavesStore names held done result new disk → LeavesStore names held done result after disk
-leaves_broken names held done (Ok x) new after disk is broken l = cc is
-leaves_broken names held done (Err e) new after disk is broken l = record { ok = tt; err = λ no_. absurd (true_false (sym broken ∙ no_)); settled = l.settled }
-
-pub own_broken : {S T : Type 0} (g : Ghosts S) (result : Result T StoreErr) (old new : Stored) (site after : S) → WritesOwn g result old new site after → WritesOwn g result old (record new { broken = true }) site after
-own_broken g result old new site after w = record {
-  tells_nothing = w.tells_nothing;
-  others = w.others;
-  there = λ shown. record { manifest = (w.there shown).manifest; log = (w.there shown).log };
-  certain = w.certain;
-}
 
 -- a part that failed, of which the caller says anew whether it breaks the store: whether it is broken does not matter to how a store stands
 stands_marked : (names : List Name) (held : Held) (store : Stored) (mark : Bool) (disk : Disk) → StandsFor names held store disk → StandsFor names held (record store { broken = mark }) disk

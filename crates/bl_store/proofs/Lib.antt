@@ -2,7 +2,9 @@ mod SyncedLemmas
 mod HeldLemmas
 mod MomentLemmas
 mod NumberLemmas
+mod OpeningLemmas
 mod OwnLemmas
+mod ReportLemmas
 mod BreakLemmas
 mod LogLemmas
 mod AppendLemmas

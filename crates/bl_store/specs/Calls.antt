@@ -1,5 +1,5 @@
 -- What calls of a store do.
-use Rattle.std.specs.Prelude.{◌≡◌, ◌⊎◌, ℕ, ◌+◌, ◌<◌, ◌≤◌, ◌^◌, nat_le, Bool, true, false, List, [], ◌∷◌, length, sum_by, Option, None, Some, Result, Err, IsSome, OnOk, OnErr, IsErrOf, if◌then◌else◌}
+use Rattle.std.specs.Prelude.{◌≡◌, ◌⊎◌, ℕ, ◌+◌, ◌<◌, ◌≤◌, ◌^◌, nat_le, Bool, true, false, List, [], ◌∷◌, length, sum_by, Option, None, Some, Result, Err, IfErr, IsSome, OnOk, OnErr, IsErrOf, if◌then◌else◌}
 use Rattle.bl_site.specs.Causes.{Rose}
 use Rattle.bl_site.specs.Disk.{Disk, Name, folder_of, written_of}
 use Rattle.bl_site.specs.Calls.{LeavesOnly}
@@ -17,6 +17,7 @@ use Rattle.bl_folder.specs.Numbers.{number_of}
 use Rattle.bl_folder.specs.Settled.{IsSettled}
 use Rattle.bl_open.specs.SteadyCuts.{LeavesMap}
 use Rattle.bl_store.specs.Stored.{Stored}
+use Rattle.bl_store.specs.Causes.{IsMaking, IsWriting, OrBroken}
 use Rattle.bl_store.specs.Held.{Held, maps_of}
 use Rattle.bl_store.specs.Standing.{IsThere, StandsFor}
 use Rattle.bl_store.specs.declared.error.StoreErr.{StoreErr}
@@ -57,15 +58,7 @@ next_flushed s = from s.waiting
 abbrev pub next_with_room : Stored → ℕ
 next_with_room s = if is_full s then next_flushed s + 1 else s.next
 
--- and once the memory in use is switched, where it has an entry
-abbrev pub next_switched : Stored → ℕ
-next_switched s = from s.memory
-  where
-    from : List Entry → ℕ
-    from [] = next_flushed s
-    from (e ∷ es) = next_flushed s + 1
-
--- and once the memory in use is flushed too, where it has an entry
+-- and once the memory in use is switched and flushed too, where it has an entry
 abbrev pub next_emptied : Stored → ℕ
 next_emptied s = from s.memory
   where
@@ -150,11 +143,12 @@ pub record HasWritten (operations : List Operation) (old new : Stored) : Type 0 
   pub room : is_full old ≡ false → (new.waiting ≡ old.waiting) × (new.version ≡ old.version)
   pub options : new.standing.options ≡ old.standing.options
 
--- `Full` is answered with the last sequence exactly where the batch would pass the greatest one, and else with 10 ^ 15 only where room takes more numbers than are left.
+-- `Full` is answered with the last sequence exactly where the batch would pass the greatest one, and else with 10 ^ 15 exactly where room takes more numbers than are left, unless another failure comes before.
 pub record RefusesWrite {T : Type 0} (operations : List Operation) (old : Stored) (result : Result T StoreErr) : Type 0 where
   pub sequence : old.broken ≡ false → 2 ^ 56 ≤ old.last + length operations → result ≡ Err (Full old.last)
   pub full : (n : ℕ) → result ≡ Err (Full n) → ((n ≡ old.last) × (2 ^ 56 ≤ old.last + length operations)) ⊎ ((n ≡ 10 ^ 15) × (10 ^ 15 < next_with_room old))
-  pub fits : OnOk result (old.last + length operations < 2 ^ 56)
+  pub fits : OnOk result ((old.last + length operations < 2 ^ 56) × (next_with_room old ≤ 10 ^ 15))
+  pub causes : IfErr result (OrBroken IsWriting)
 
 -- ---- a flush
 
@@ -165,6 +159,12 @@ pub record HasFlushedInUse (old new : Stored) : Type 0 where
   pub last : new.last ≡ old.last
   pub next : new.next ≡ next_of old.standing.options [] (old.next + 1) old.memory
   pub options : new.standing.options ≡ old.standing.options
+
+-- `Full` is answered with 10 ^ 15 alone, and exactly where the flush takes more numbers than are left, unless another failure comes before.
+pub record RefusesFlush {T : Type 0} (old : Stored) (result : Result T StoreErr) : Type 0 where
+  pub full : (n : ℕ) → result ≡ Err (Full n) → (n ≡ 10 ^ 15) × (10 ^ 15 < next_emptied old)
+  pub fits : OnOk result (next_emptied old ≤ 10 ^ 15)
+  pub causes : IfErr result (OrBroken IsMaking)
 
 -- No entry is in memory.
 pub record HasEmptied (old new : Stored) : Type 0 where

@@ -1,5 +1,5 @@
 -- Why a call of a store fails.
-use Rattle.std.specs.Prelude.{◌≡◌, ◌⊎◌, ◌^◌}
+use Rattle.std.specs.Prelude.{◌≡◌, ◌⊎◌, ℕ, ◌^◌}
 use Rattle.bl_wal.specs.declared.error.WalErr.{WalErr}
 use Rattle.bl_wal.specs.declared.error.WalErr.TheVariants as wal
 use Rattle.bl_manifest.specs.declared.error.ManifestErr.{ManifestErr}
@@ -9,7 +9,7 @@ use Rattle.bl_out.specs.declared.error.JobErr.TheVariants as job
 use Rattle.bl_open.specs.declared.error.OpenErr.{OpenErr}
 use Rattle.bl_open.specs.declared.error.OpenErr.TheVariants as opening
 use Rattle.bl_store.specs.declared.error.StoreErr.{StoreErr}
-use Rattle.bl_store.specs.declared.error.StoreErr.TheVariants.{Disk, OutOfMemory, Corrupt, Full, Differ}
+use Rattle.bl_store.specs.declared.error.StoreErr.TheVariants.{Disk, OutOfMemory, Corrupt, Full, Broken, Differ}
 
 abbrev pub of_log : WalErr → StoreErr
 of_log wal.Disk = Disk
@@ -34,6 +34,10 @@ of_opening (opening.Full next) = Full next
 of_opening (opening.Differ option stored asked) = Differ option stored asked
 of_opening opening.OutOfMemory = OutOfMemory
 
+-- how an opening may fail
+abbrev pub IsOpening : StoreErr → Type 0
+IsOpening e = (o : OpenErr) × (e ≡ of_opening o)
+
 -- how a sync may fail
 abbrev pub IsSyncing : StoreErr → Type 0
 IsSyncing e = (e ≡ Disk) ⊎ (e ≡ OutOfMemory)
@@ -41,3 +45,11 @@ IsSyncing e = (e ≡ Disk) ⊎ (e ≡ OutOfMemory)
 -- how a call may fail that makes files
 abbrev pub IsMaking : StoreErr → Type 0
 IsMaking e = (e ≡ Disk) ⊎ ((e ≡ OutOfMemory) ⊎ (e ≡ Full (10 ^ 15)))
+
+-- how a write may fail: also by a limit of its own, of sequences
+abbrev pub IsWriting : StoreErr → Type 0
+IsWriting e = (e ≡ Disk) ⊎ ((e ≡ OutOfMemory) ⊎ ((n : ℕ) × (e ≡ Full n)))
+
+-- how a writing call may fail: it finds the store broken, or fails so
+abbrev pub OrBroken : (StoreErr → Type 0) → StoreErr → Type 0
+OrBroken IsCause e = (e ≡ Broken) ⊎ IsCause e

@@ -6,3 +6,4 @@ pub mod Causes
 pub mod Calls
 pub mod Switching
 pub mod Flushing
+pub mod Opening

@@ -1,13 +1,16 @@
 -- How a store stands on a disk.
 use Rattle.std.specs.Prelude.{◌≡◌, ◌<◌, ◌≤◌, List, length, take, drop, Option, None, Some, IsSome}
 use Rattle.std.specs.List.{AllByRecursion}
-use Rattle.bl_site.specs.Disk.{Disk, Name}
+use Rattle.bl_site.specs.Disk.{Disk, Folder, Name}
 use Rattle.bl_names.specs.Names.{manifest_name}
+use Rattle.bl_entry.specs.Revisions.{Map}
 use Rattle.bl_entry.specs.Written.{entries_of}
 use Rattle.bl_memtab.specs.Filled.{Holds}
 use Rattle.bl_wal.specs.LogFile.{log_name}
 use Rattle.bl_folder.specs.Flushes.{IsBelow, IsMemoryOf}
+use Rattle.bl_folder.specs.Live.{IsLive}
 use Rattle.bl_folder.specs.Memories.{IsInBounds}
+use Rattle.bl_folder.specs.Stands.{StandsLive}
 use Rattle.bl_open.specs.Installations.{switched_at}
 use Rattle.bl_open.specs.Steady.{Steady, IsSteady, accepted, durable}
 use Rattle.bl_store.specs.Stored.{Stored}
@@ -45,6 +48,11 @@ pub record StandsFor (names : List Name) (held : Held) (store : Stored) (disk : 
   pub writes : accepted steady ≡ length held.writes
   pub durable : held.durable ≤ durable steady
   pub found : AreFilesBelow store.next names
+
+-- The folder stands for the map, and its live part is what the store has: its manifest, its version, and what stands beside that.
+pub record IsOnDisk (store : Stored) (m : Map) (folder : Folder) : Type 0 where
+  pub live : IsLive folder store.manifest.number (record { version = store.version; standing = store.standing })
+  pub stands : StandsLive folder m
 
 -- the files that it writes are there
 pub record IsThere (store : Stored) (disk : Disk) : Type 0 where

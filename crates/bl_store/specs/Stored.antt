@@ -1,5 +1,5 @@
 -- What a contract sees of a store.
-use Rattle.std.specs.Prelude.{◌≡◌, ℕ, ◌<◌, ◌^◌, Bool, false, List, Option, IfSome}
+use Rattle.std.specs.Prelude.{◌≡◌, ℕ, ◌<◌, ◌≤◌, ◌^◌, Bool, false, List, Option, IfSome}
 use Rattle.bl_names.specs.Names.{IsNumber}
 use Rattle.bl_entry.specs.declared.key.Entry.{Entry}
 use Rattle.bl_build.specs.Listing.{Listing}
@@ -42,3 +42,4 @@ pub record IsInOrder (s : Stored) : Type 0 where
   pub filled : s.broken ≡ false → IsFilled s.memory s.last
   pub waits : IfSome s.waiting IsWaiting
   pub last : s.last < 2 ^ 56
+  pub next : s.next ≤ 10 ^ 15

@@ -18,7 +18,7 @@ ghost use Rattle.bl_open.specs.Flushing.{drawn};
 ghost use Rattle.bl_open.specs.Steady.{Maps, Steady, IsSteady, accepted, durable};
 ghost use Rattle.bl_open.specs.SteadyCalls.{Installs, KeepsAllBut, installed};
 ghost use Rattle.bl_open.specs.SteadyCuts.{LeavesMap};
-ghost use Rattle.bl_store.specs.Calls.{Breaks, CutsOfCall, HasEmptied, HasFlushedInUse, LeavesStore, WritesOwn, next_emptied, next_flushed, next_switched};
+ghost use Rattle.bl_store.specs.Calls.{Breaks, CutsOfCall, HasEmptied, HasFlushedInUse, LeavesStore, RefusesFlush, WritesOwn, next_flushed};
 ghost use Rattle.bl_store.specs.Causes.{IsMaking, IsSyncing};
 ghost use Rattle.bl_store.specs.Flushing.{HasFlushed, HasMade};
 ghost use Rattle.bl_store.specs.Held.{Held, all_durable};
@@ -244,12 +244,13 @@ impl Store {
     }
 
     // Switches the memory in use, and flushes it. No memory waits before.
+    #[tactic(auto, using(crate::proofs::NumberLemmas::flush_up))]
     fn flush_in_use<S: Site>(&mut self, alloc: Global, site: &mut S) -> Result<(), StoreErr>
         requires usable { self.old.broken ≡ false }
         requires none { self.old.waiting ≡ None }
         requires there { S.shows → IsThere self.old (S.disk site.old) }
         ensures flushed { OnOk result (HasFlushedInUse self.old self.new) }
-        ensures full { (n : ℕ) → result ≡ Err (StoreErr.Full n) → (n ≡ 10 ^ 15) × ((self.old.next ≡ 10 ^ 15) ⊎ (10 ^ 15 < next_of self.old.standing.options [] (self.old.next + 1) self.old.memory)) }
+        ensures full { (n : ℕ) → result ≡ Err (StoreErr.Full n) → (n ≡ 10 ^ 15) × (10 ^ 15 < next_of self.old.standing.options [] (self.old.next + 1) self.old.memory) }
         ensures upwards { self.old.next ≤ self.new.next }
         ensures breaks { Breaks S.Site result self.old self.new site.old site.new }
         ensures always { IsErrOf result StoreErr.OutOfMemory → self.new.broken ≡ true }
@@ -266,13 +267,14 @@ impl Store {
     /// Flushes what is in memory into tables and blob files: a waiting memory first, and then, once it is switched, the one in use where
     /// it has an entry. Behind it no entry is in memory, and all writes are durable.
     ///
-    /// Errors: `Broken` exactly where the store is broken; `Full` with 10^15, where more files are to be made than numbers are left;
-    /// `Disk`; `OutOfMemory`. After `Disk`, and after `OutOfMemory` once the folder was asked, the store is broken. Else it holds what it
+    /// Errors: `Broken` exactly where the store is broken; else `Full` with 10^15 exactly where more files are to be made than numbers
+    /// are left and no other failure comes before; `Disk`; `OutOfMemory`. After `Disk`, and after `OutOfMemory` once the folder was asked, the store is broken. Else it holds what it
     /// held; a memory may have been flushed or switched by then.
+    #[tactic(auto, using(crate::proofs::NumberLemmas::switch_within))]
     pub fn flush<S: Site>(&mut self, alloc: Global, site: &mut S) -> Result<(), StoreErr>
         requires there { S.shows → IsThere self.old (S.disk site.old) }
         ensures broken { (result ≡ Err StoreErr.Broken) ↔ (self.old.broken ≡ true) }
-        ensures full { (n : ℕ) → result ≡ Err (StoreErr.Full n) → (n ≡ 10 ^ 15) × ((10 ^ 15 < next_switched self.old) ⊎ (10 ^ 15 < next_emptied self.old)) }
+        ensures refuses { RefusesFlush self.old result }
         ensures emptied { OnOk result (HasEmptied self.old self.new) }
         ensures breaks { self.old.broken ≡ false → Breaks S.Site result self.old self.new site.old site.new }
         ensures stays { self.old.broken ≡ true → (self.new ≡ self.old) × (site.new ≡ site.old) }
@@ -289,6 +291,8 @@ impl Store {
         if self.memory.count() == 0 {
             return self.sync_log(site);
         }
-        self.flush_in_use(alloc, site)
+        let flushed = self.flush_in_use(alloc, site);
+        self.show_next();
+        flushed
     }
 }

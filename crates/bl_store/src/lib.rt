@@ -4,9 +4,12 @@
 
 mod error;
 mod flush;
+mod opening;
+mod report;
 mod store;
 mod switch;
 mod write;
 
 pub use error::StoreErr;
+pub use report::Report;
 pub use store::Store;

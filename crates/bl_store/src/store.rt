@@ -1,6 +1,6 @@
 //! The store.
 
-ghost use Rattle.std.specs.Prelude.{◌≡◌};
+ghost use Rattle.std.specs.Prelude.{◌≡◌, ◌≤◌, ◌^◌};
 
 use bl_build::{Standing, Version};
 use bl_manifest::Manifest;
@@ -70,5 +70,12 @@ impl Store {
         ensures { result ≡ self.now.broken }
     {
         self.broken
+    }
+
+    // The next number is one that a file may have, or the one behind.
+    pub(crate) fn show_next(&self)
+        ensures { self.now.next ≤ 10 ^ 15 }
+    {
+        let _next = self.numbers.next();
     }
 }

@@ -1,12 +1,12 @@
 //! The log in use: it is synced, and the next one is made.
 
-ghost use Rattle.std.specs.Prelude.{◌≡◌, ◌⊎◌, ℕ, ◌+◌, ◌<◌, ◌≤◌, ◌^◌, List, [], false, true, Some, None, Err, IfErr, IsSome, OnOk, OnErr, IsErrOf};
+ghost use Rattle.std.specs.Prelude.{◌≡◌, ◌↔◌, ◌⊎◌, ℕ, ◌+◌, ◌<◌, ◌≤◌, ◌^◌, List, [], false, true, Some, None, Err, IfErr, IsSome, OnOk, OnErr, IsErrOf};
 ghost use Rattle.bl_site.specs.Causes.{Rose};
 ghost use Rattle.bl_site.specs.Disk.{Name};
 ghost use Rattle.bl_names.specs.Names.{IsNumber};
 ghost use Rattle.bl_wal.specs.LogFile.{new_log};
 ghost use Rattle.bl_store.specs.Calls.{Breaks, CutsOfCall, LeavesStore, WritesOwn};
-ghost use Rattle.bl_store.specs.Causes.{IsMaking, IsSyncing};
+ghost use Rattle.bl_store.specs.Causes.{IsMaking, IsSyncing, OrBroken};
 ghost use Rattle.bl_store.specs.Held.{Held, all_durable};
 ghost use Rattle.bl_store.specs.Standing.{IsThere, StandsFor};
 ghost use Rattle.bl_store.specs.Switching.{switched, undrawn};
@@ -51,6 +51,30 @@ impl Store {
             return Err(error.into());
         }
         Ok(())
+    }
+
+    /// Syncs the log in use: behind it all writes are durable. Nothing else changes.
+    ///
+    /// Errors: `Broken` exactly where the store is broken; `Disk` and `OutOfMemory`, either of which breaks the store. It holds what it
+    /// held then, but no more writes are known to be durable.
+    pub fn sync<S: Site>(&mut self, site: &mut S) -> Result<(), StoreErr>
+        requires there { S.shows → IsThere self.old (S.disk site.old) }
+        ensures broken { (result ≡ Err StoreErr.Broken) ↔ (self.old.broken ≡ true) }
+        ensures synced { OnOk result (self.new ≡ self.old) }
+        ensures failed { self.old.broken ≡ false → OnErr result (self.new ≡ record self.old { log = self.new.log; broken = true }) }
+        ensures breaks { self.old.broken ≡ false → Breaks S.Site result self.old self.new site.old site.new }
+        ensures stays { self.old.broken ≡ true → (self.new ≡ self.old) × (site.new ≡ site.old) }
+        ensures stands { S.shows → self.old.broken ≡ false → (names : List Name) (held : Held) → StandsFor names held self.old (S.disk site.old)
+            → LeavesStore names held (all_durable held) result self.new (S.disk site.new) }
+        ensures cuts { S.shows → S.certain site.old → self.old.broken ≡ false → (held : Held) → StandsFor [] held self.old (S.disk site.old) → CutsOfCall S.Site held (all_durable held) site.old site.new }
+        ensures own { WritesOwn S.Site result self.old self.new site.old site.new }
+        ensures causes { IfErr result (OrBroken IsSyncing) }
+        ensures disk { IsErrOf result StoreErr.Disk → Rose (S.disk_faults site.old) (S.disk_faults site.new) }
+    {
+        if self.broken {
+            return Err(StoreErr::Broken);
+        }
+        self.sync_log(site)
     }
 
     // Makes the log of this number, which was drawn, and puts it in use; the memory waits. No memory waits before, and all writes are

@@ -181,7 +181,8 @@ impl Store {
     /// blob files, the log in use is synced, the next one is made, and the memory waits.
     ///
     /// Errors: `Broken` exactly where the store is broken; else `Full` with the last sequence exactly where the batch would pass
-    /// sequence 2^56 - 1, and with 10^15 where room takes more file numbers than are left; `Disk`; `OutOfMemory`. After `Disk`, and
+    /// sequence 2^56 - 1, and with 10^15 exactly where room takes more file numbers than are left and no other failure comes before;
+    /// `Disk`; `OutOfMemory`. After `Disk`, and
     /// after `OutOfMemory` once the folder was asked, the store is broken, and the batch may be in the folder or not. Else the batch is
     /// not written, and the store holds what it held.
     pub fn write<S: Site>(
@@ -213,6 +214,8 @@ impl Store {
         if self.memory.bytes() < self.standing.options.write_buffer {
             return self.append(alloc, site, batch);
         }
-        self.write_behind_room(alloc, site, batch)
+        let written = self.write_behind_room(alloc, site, batch);
+        self.show_next();
+        written
     }
 }

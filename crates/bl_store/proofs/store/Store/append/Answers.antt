@@ -163,6 +163,7 @@ invariant_of-self-2 g c =
       filled = λ no_. subst (λ n. Rattle.bl_open.specs.Replaying.IsFilled c.insert_batch.new.memory (i.last + n)) (sym count) filled;
       waits = v.waits;
       last = omega (arith, room, count);
+      next = v.next;
     }
 
 pub returns-clause-appended : goal.returns-clause-appended

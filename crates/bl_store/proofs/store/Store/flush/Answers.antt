@@ -39,16 +39,16 @@ returns-then-count-eq0-clause-own g c =
 
 pub returns-clause-stands : goal.returns-clause-stands
 returns-clause-stands g c = λ shown usable names held t.
-    c.flush_in_use.ensures.stands shown names held (c.in_ok-flush_waiting.ensures.stands shown names held t).ok
+    c.flush_in_use-flushed.ensures.stands shown names held (c.in_ok-flush_waiting.ensures.stands shown names held t).ok
 
 pub returns-clause-cuts : goal.returns-clause-cuts
 returns-clause-cuts g c = λ shown sure usable held t.
-    cuts_second g.S.Site held held (all_durable held) c.args.site.now c.flush_waiting.new.site c.flush_in_use.new.site (c.in_ok-flush_waiting.ensures.own.tells_nothing.told shown) (omega arith) (omega arith) (λ n le. refl)
+    cuts_second g.S.Site held held (all_durable held) c.args.site.now c.flush_waiting.new.site c.flush_in_use-flushed.new.site (c.in_ok-flush_waiting.ensures.own.tells_nothing.told shown) (omega arith) (omega arith) (λ n le. refl)
     (c.in_ok-flush_waiting.ensures.cuts shown sure held t)
-    (c.flush_in_use.ensures.cuts shown (c.in_ok-flush_waiting.ensures.own.certain shown sure) held (c.in_ok-flush_waiting.ensures.stands shown [] held t).ok)
+    (c.flush_in_use-flushed.ensures.cuts shown (c.in_ok-flush_waiting.ensures.own.certain shown sure) held (c.in_ok-flush_waiting.ensures.stands shown [] held t).ok)
 
 pub returns-clause-own : goal.returns-clause-own
 returns-clause-own g c =
     let f = c.in_ok-flush_waiting.ensures.flushed in
-    own_join c.args.self.now c.flush_waiting.new.self c.flush_in_use.new.self c.in_ok-flush_waiting.ensures.upwards c.flush_in_use.ensures.upwards (inl (ap (λ (l : LogFile). l.number) f.log)) f.manifest
-    g.S.Site c.flush_in_use.result c.in_ok-flush_waiting.field-0 c.args.site.now c.flush_waiting.new.site c.flush_in_use.new.site c.in_ok-flush_waiting.ensures.own c.flush_in_use.ensures.own
+    own_join c.args.self.now c.flush_waiting.new.self c.flush_in_use-flushed.new.self c.in_ok-flush_waiting.ensures.upwards c.flush_in_use-flushed.ensures.upwards (inl (ap (λ (l : LogFile). l.number) f.log)) f.manifest
+    g.S.Site c.flush_in_use-flushed.result c.in_ok-flush_waiting.field-0 c.args.site.now c.flush_waiting.new.site c.flush_in_use-flushed.new.site c.in_ok-flush_waiting.ensures.own c.flush_in_use-flushed.ensures.own

@@ -31,6 +31,7 @@ invariant_of-self g c =
       filled = λ no. subst (λ (es : List Entry). IsFilled es i.last) (sym empty) (record { batches = []; fit = tt; holds = c.batches_are_held.ensures.none i.last });
       waits = record { plain = subst Rattle.bl_flush.specs.Jobs.ArePutsAndDeletions (sym was) (plain_of c.memories_tell_what_was_inserted.ensures.memory i.memory i.last filled); last = v.last; log = c.requires.number };
       last = v.last;
+      next = v.next;
     }
 
 pub returns-in-Ok-clause-stands : goal.returns-in-Ok-clause-stands

@@ -37,7 +37,7 @@ pub returns-then-bytes-self-clause-cuts : goal.returns-then-bytes-self-clause-cu
 returns-then-bytes-self-clause-cuts g c = λ shown sure usable held t. c.append.ensures.cuts shown sure held t
 
 pub returns-clause-stands : goal.returns-clause-stands
-returns-clause-stands g c = λ shown usable names held t. c.write_behind_room.ensures.stands shown names held t
+returns-clause-stands g c = λ shown usable names held t. c.write_behind_room-written.ensures.stands shown names held t
 
 pub returns-clause-cuts : goal.returns-clause-cuts
-returns-clause-cuts g c = λ shown sure usable held t. c.write_behind_room.ensures.cuts shown sure held t
+returns-clause-cuts g c = λ shown sure usable held t. c.write_behind_room-written.ensures.cuts shown sure held t
