@@ -14,3 +14,4 @@ mod FlushLemmas
 mod InsertLemmas
 mod ComposeLemmas
 mod BesideLemmas
+mod CompactLemmas

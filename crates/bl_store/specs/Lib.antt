@@ -7,3 +7,5 @@ pub mod Calls
 pub mod Switching
 pub mod Flushing
 pub mod Opening
+pub mod Compacted
+pub mod CompactionLaws

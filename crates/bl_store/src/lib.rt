@@ -2,6 +2,7 @@
 //! once it is full.
 #![tactic(auto)]
 
+mod compacted;
 mod error;
 mod flush;
 mod opening;
@@ -10,6 +11,7 @@ mod store;
 mod switch;
 mod write;
 
+pub use compacted::{compactions_are_installed, jobs_may_be_installed};
 pub use error::StoreErr;
 pub use report::Report;
 pub use store::Store;
