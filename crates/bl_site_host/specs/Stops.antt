@@ -1,9 +1,9 @@
 -- Why a call on the folder fails.
-use Rattle.std.specs.Prelude.{◌≡◌, ◌≢◌, ◌<◌, ◌⊎◌, ℕ, Bool, false, IsTrue, List, [], ◌∷◌, length, None, Some}
+use Rattle.std.specs.Prelude.{◌≡◌, ◌≢◌, ◌<◌, ◌⊎◌, Bool, false, IsTrue, List, [], ◌∷◌, length, None, Some}
 use Rattle.bl_site.specs.Disk.{Name}
 use Rattle.bl_site_host.specs.Events.{Event, Looked, Listing, ListingBroke, Opened, Made, Read, Wrote, SyncedFile, SyncedFolder, Renamed, Removed}
 use Rattle.bl_site_host.specs.declared.system.Found.{Found}
-use Rattle.bl_site_host.specs.declared.system.Found.TheVariants.{Nothing, File, Other}
+use Rattle.bl_site_host.specs.declared.system.Found.TheVariants.{File, Other}
 use Rattle.bl_site_host.specs.declared.faults.Fault.{Fault}
 use Rattle.bl_site_host.specs.declared.faults.Fault.TheVariants.{Memory}
 
