@@ -10,4 +10,4 @@ returns-clause-done g c = λ shown read is.
     subst (λ (disk : Disk). HasRun (folder_of disk) (folder_of (g.S.Site.disk after)) (g.R.Source.left c.args.script.now) (g.S.Site.told c.args.site.now) (g.S.Site.told after))
     (before.ensures.stays shown)
     (subst (λ (told : List ℕ). HasRun (folder_of (g.S.Site.disk before.new.site)) (folder_of (g.S.Site.disk after)) (g.R.Source.left c.args.script.now) told (g.S.Site.told after))
-    (before.ensures.quiet.told shown) (c.run-status.ensures.done shown read is))
+    (before.ensures.quiet.told shown) ((c.run-status.ensures.answers shown read).done is))
