@@ -48,8 +48,8 @@ pub record Compacts (plan : Plan) (h : Holding) (new : List TableFile) (made : L
   pub blobs : AreMade h.blobs (table_entries new) made
   pub edit : IsEditOf plan h ins new made e
 
--- What a folder says besides: its tables and blob files are those of the version, entries are within their tables' ranges, and the batches stand
--- behind the last sequence of the manifest.
+-- What is so of what a folder holds, beside that it is sound: its tables and blob files are those of the version, which is one, entries are within their
+-- tables' ranges, the batches stand behind the last sequence of the manifest, and the last sequence of all is not below it.
 pub record IsHeld (h : Holding) : Type 0 where
   pub tables : metas h.tables ≡ h.live.version.tables
   pub blobs : blob_metas h.blobs ≡ h.live.version.blobs

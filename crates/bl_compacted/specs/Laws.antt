@@ -106,7 +106,7 @@ FlushesKeepClosed = (plan : Plan) (before flushed after : List TableFile) → Is
 
 -- ---- folders
 
--- What a folder holds has this about it besides, where its tables are as the version names them.
+-- What a folder holds is so (`IsHeld`), where its tables are as the version names them.
 abbrev pub HeldByFolders : Type 0
 HeldByFolders = (folder : Folder) (manifest : ℕ) (h : Holding) → Holds folder manifest h → AllByRecursion IsAsNamed h.tables → IsHeld h
 

@@ -25,14 +25,14 @@ pub record IsRewritten (threshold : ℕ) (blobs made : List BlobFile) (e o : Ent
   pub proper : IsProper o
   pub placed : IsPlaced threshold o.key.kind o
 
--- An entry is handed on as it is, where it refers to no file below the cutoff; or else its value was written anew.
+-- An entry is handed on as it is, where it refers to no file below the cutoff, or its value was written anew.
 abbrev pub HandsOn : ℕ → ℕ → List BlobFile → List BlobFile → Entry → Entry → Type 0
 HandsOn cutoff threshold blobs made e o = ((o ≡ e) × IsFrom cutoff e) ⊎ IsRewritten threshold blobs made e o
 
 abbrev pub numbers : List BlobFile → List ℕ
 numbers blobs = map (λ b. b.meta.number) blobs
 
--- the new blob files: their numbers are new, and each of their records is referenced, and by one of these entries
+-- the new blob files: their numbers are new and differ, their totals are those of their records, and each record is referenced by exactly one of these entries
 pub record AreMade (old : List BlobFile) (outs : List Entry) (made : List BlobFile) : Type 0 where
   pub fresh : AllByRecursion (λ b. AllByRecursion (λ o. o.meta.number ≢ b.meta.number) old) made
   pub once : Pairwise (λ a b. a.meta.number ≢ b.meta.number) made
@@ -49,7 +49,7 @@ IsRanged t = AllByRecursion (λ e. (bytes_le (first_user t.meta) e.key.user ≡ 
 abbrev pub EndsBefore : TableFile → TableFile → Type 0
 EndsBefore a b = bytes_lt (last_user a.meta) (first_user b.meta) ≡ true
 
--- the new tables: in this level, as the version names them, one behind the other, with new numbers
+-- the new tables: in this level, their entries within their ranges, one behind the other, with numbers that are new and differ
 pub record AreOutputs (level : ℕ) (old new : List TableFile) : Type 0 where
   pub levels : AllByRecursion (λ t. t.meta.level ≡ level) new
   pub named : AllByRecursion (λ t. IsRanged t) new

@@ -7,7 +7,7 @@ use bl_folder::live_parts_have_a_version;
 use bl_table::tables_are_read_block_by_block;
 
 /// The edit of a compaction is accepted: it meets no refusal of a version's step, and leads to the version of
-/// the tables and blob files that are there then. So it is where a flush put tables into level 0 meanwhile.
+/// the tables and blob files that are there then.
 pub fn compactions_install()
     ensures { CompactionsInstall }
 {}
