@@ -93,7 +93,7 @@ unfolding six
 edit = record {
   comparator = false;
   log_number = None;
-  next_file = Some 8;
+  next_file = None;
   last_sequence = None;
   options = None;
   deleted = record { level = 0; number = 4 } ∷ [];
@@ -205,6 +205,7 @@ row_rewrites = record {
   files_ascend = (tt, tt);
   files_named = named_files;
   garbage = refl;
+  alone = record { comparator = refl; log_number = refl; next_file = refl; last_sequence = refl; options = refl };
 }
 
 row_closed : IsClosed plan holding.tables

@@ -205,7 +205,7 @@ rewrites_compact plan h inputs blobs new made e held w at = record {
   merged = join (shuffled_flat (λ t. t.entries) at.inputs_are) w.merged;
   ascend = w.ascend;
   handed = all_zip (ComesOut plan.cutoff threshold blobs made) (HandsOn plan.cutoff threshold h.blobs made) (kept plan.snapshots plan.bottom w.ins) (table_entries new) (λ k o i r. handed k o (in_inputs k i) r) w.out;
-  outputs = record { levels = w.levels; named = w.ranged; fresh = at.tables_fresh; once = w.tables_once; behind = w.behind };
+  outputs = record { levels = w.levels; ranged = w.ranged; fresh = at.tables_fresh; once = w.tables_once; behind = w.behind };
   named = w.named;
   blobs = are_made h.blobs made (table_entries new) at.blobs_fresh w.blobs_once w.totals w.records;
   edit = record {

@@ -52,7 +52,7 @@ EndsBefore a b = bytes_lt (last_user a.meta) (first_user b.meta) ≡ true
 -- the new tables: in this level, their entries within their ranges, one behind the other, with numbers that are new and differ
 pub record AreOutputs (level : ℕ) (old new : List TableFile) : Type 0 where
   pub levels : AllByRecursion (λ t. t.meta.level ≡ level) new
-  pub named : AllByRecursion (λ t. IsRanged t) new
+  pub ranged : AllByRecursion (λ t. IsRanged t) new
   pub fresh : AllByRecursion (λ t. AllByRecursion (λ u. u.meta.number ≢ t.meta.number) old) new
   pub once : Pairwise (λ t u. t.meta.number ≢ u.meta.number) new
   pub behind : Pairwise EndsBefore new

@@ -1,5 +1,5 @@
 -- What a compaction does with its inputs alone, whatever else a version has; and what is to hold where its edit is installed.
-use Rattle.std.specs.Prelude.{◌≡◌, ◌≢◌, ◌⊎◌, ◌↔◌, ℕ, ◌<◌, ◌≤◌, ◌==◌, Bool, List, map, filter, flat_map, length, Contains, IfSome}
+use Rattle.std.specs.Prelude.{◌≡◌, ◌≢◌, ◌⊎◌, ◌↔◌, ℕ, ◌<◌, ◌≤◌, ◌==◌, Bool, false, List, map, filter, flat_map, length, Contains, None, IfSome}
 use Rattle.std.specs.List.{AllByRecursion, AllZip, list_any}
 use Rattle.bl_blob.specs.BlobFile.{blobs_of, totals_of}
 use Rattle.bl_blob.specs.declared.blob.BlobAt.{BlobAt}
@@ -44,6 +44,14 @@ is_made made r = list_any (λ n. n == r.index.file) (numbers made)
 abbrev pub deletion_of : TableFile → DeletedTable
 deletion_of t = record { level = t.meta.level; number = t.meta.number }
 
+-- beside its lists the edit gives nothing
+pub record GivesOnlyLists (e : Edit) : Type 0 where
+  pub comparator : e.comparator ≡ false
+  pub log_number : e.log_number ≡ None
+  pub next_file : e.next_file ≡ None
+  pub last_sequence : e.last_sequence ≡ None
+  pub options : e.options ≡ None
+
 -- From these inputs, and the blob files that their entries name, by this plan.
 pub record Rewrites (plan : Plan) (threshold : ℕ) (inputs : List TableFile) (blobs : List BlobFile) (new : List TableFile) (made : List BlobFile) (e : Edit) : Type 0 where
   -- the entries of the inputs in one list, in the order of keys; those that are kept come out
@@ -70,6 +78,7 @@ pub record Rewrites (plan : Plan) (threshold : ℕ) (inputs : List TableFile) (b
   pub files_ascend : Ascends (λ n. n) files
   pub files_named : (n : ℕ) → Contains files n ↔ (1 ≤ count_of n ins)
   pub garbage : e.garbage ≡ map (garbage_in ins (table_entries new)) files
+  pub alone : GivesOnlyLists e
 
 -- Where it is installed: the plan may be carried out there, its inputs are as they were, each of their entries reads as it did, and the numbers are new.
 pub record MayInstall (plan : Plan) (h : Holding) (inputs : List TableFile) (blobs : List BlobFile) (new : List TableFile) (made : List BlobFile) : Type 0 where

@@ -32,9 +32,11 @@ pub record Run : Type 1 where
   -- the disks that a cut might find
   pub may_be : Disk → Type 0
   pub may_be_after : Disk → Type 0
-  -- so is each cut at a moment of the run; so is each cut from some moment of it on; one might have left this
+  -- this is so of each cut at a moment of the run
   pub EachCut : (Cut → Type 0) → Type 0
+  -- this is so of each cut from some moment of the run on
   pub EachLateCut : (Cut → Type 0) → Type 0
+  -- a cut at some moment of the run might have left this
   pub MightBeLeft : Cut → Type 0
 
 abbrev pub run_of : {S R : Type 0} → SiteGhosts S → SourceGhosts R → (script after : R) → (old new : S) → Run
@@ -60,8 +62,8 @@ folder run = folder_of run.disk
 abbrev pub folder_after : Run → Folder
 folder_after run = folder_of run.disk_after
 
--- A cut behind the barrier of the opening: unless a torn fragment's checksum matches by chance, the folder left stands for the map after a
--- prefix of the writes that holds each one acknowledged as synced, and none that passes a limit.
+-- A cut behind the barrier of the opening: older logs are left whole and, unless a torn fragment's checksum matches by chance, the folder left
+-- stands for the map after a prefix of the writes that holds each one acknowledged as synced, and none that passes a limit.
 abbrev pub IsBehind : Run → Cut → Type 0
 IsBehind run c = CutStands (folder run) (orders run.script) run.told c
 
@@ -81,7 +83,7 @@ TellsEndInPart run = HasEnded (folder run) (folder_after run) run.script run.tol
 abbrev pub TellsNoMore : Run → Status → Type 0
 TellsNoMore run status = (run.told_after ≡ run.told) ⊎ HasBegun (folder run) run.script run.told run.told_after ⊎ ((status ≡ TellFault) × TellsEndInPart run)
 
--- the run stopped by a failure
+-- a reply could not be told, the folder failed, or memory ran out
 abbrev pub IsFailure : Status → Type 0
 IsFailure status = (status ≡ TellFault) ⊎ (status ≡ DiskFault) ⊎ (status ≡ OutOfMemory)
 
@@ -101,11 +103,12 @@ pub record AnswersAsMap (run : Run) (status : Status) : Type 0 where
 
 -- With a power cut at any moment, whatever the status.
 pub record SurvivesCuts (run : Run) (status : Status) : Type 0 where
-  -- before the barrier as if the run had not begun, and no reply was told; or behind it
+  -- before the barrier what a cut before the run might have left, perhaps with the next log besides, empty, and nothing told but a front of
+  -- an error line; or behind it
   pub any_moment : run.EachCut (CutOfRun run.may_be (folder run) (orders run.script) run.told)
   -- the barrier is over once the next log is made, where no name call was in doubt as the run began
   pub barrier : run.certain → run.EachCut (λ c. HasNextLog (folder run) c.written → IsBehind run c)
-  -- and from some moment on, whatever was in doubt then, where a byte of the script was taken, or the status is one of a run that read
+  -- and from some moment on, whatever was in doubt as the run began, where a byte of the script was taken, or the status is one of a run that read
   -- it, or the next log is there and no name call is in doubt
   pub past : IsPastOpening status run.script run.left ⊎ (HasNextLog (folder run) run.disk_after × run.certain_after) → run.EachLateCut (IsBehind run)
   -- then, and wherever the next log is there: below a log with data no log has an unsynced byte
@@ -133,7 +136,7 @@ pub record Refuses (run : Run) (status : Status) : Type 0 where
   -- every name that is no log's stands for the file that it stood for
   pub others : KeepsOthers run.disk run.disk_after
 
--- Each failure but want of memory has its cause in the run.
+-- Each failure of the script, of the output or of the folder, and `Long`, has its cause in the run.
 pub record HasCauses {S R : Type 0} (s : SiteGhosts S) (r : SourceGhosts R) (status : Status) (script after : R) (old new : S) : Type 0 where
   pub read : status ≡ ReadFault → Rose (r.faults script) (r.faults after)
   pub tell : status ≡ TellFault → Rose (s.tell_faults old) (s.tell_faults new)

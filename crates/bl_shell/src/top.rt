@@ -148,7 +148,8 @@ pub fn run<R: Source, S: Site>(
     ensures words { (result ≡ Status.Words) ↔ (0 < length words.now) }
     ensures untouched { result ≡ Status.Words → (script.new ≡ script.old) × (site.new ≡ site.old) }
 
-    // Each failure but want of memory has its cause in this call, on every site and source.
+    // Each failure of the script, of the output or of the folder, and `Long`, has its cause in this call, on every site and source. Not
+    // more than 2^40 bytes and one read are taken.
     ensures causes { HasCauses S.Site R.Source result script.old script.new site.old site.new }
     ensures bound { R.taken script.new ≤ R.taken script.old + 2 ^ 40 + 32768 }
 {

@@ -1,5 +1,5 @@
 -- A compaction that is done on a steady disk, and is to be installed.
-use Rattle.std.specs.Prelude.{◌≡◌, ◌≢◌, ℕ, ◌<◌, ◌≤◌, ◌^◌, ◌⊎◌, Bool, List, None, Some}
+use Rattle.std.specs.Prelude.{◌≡◌, ◌≢◌, ℕ, ◌<◌, ◌≤◌, ◌^◌, ◌⊎◌, Bool, List, Some}
 use Rattle.std.specs.List.{AllByRecursion}
 use Rattle.bl_site.specs.Disk.{Disk, written_of}
 use Rattle.bl_names.specs.declared.name.FileName.TheVariants.{Table, Blob}
@@ -14,16 +14,11 @@ use Rattle.bl_folder.specs.Settled.{IsSynced}
 use Rattle.bl_compacted.specs.Plans.{IsPlan}
 use Rattle.bl_compacted.specs.Installing.{compacted}
 use Rattle.bl_compacted.specs.Compacting.{Compacts}
+use Rattle.bl_compacted.specs.Rewriting.{GivesOnlyLists}
 
 -- a plan that is due of a version, or the one for all tables
 abbrev pub MayBegin : Listing → CompactionPlan → Type 0
 MayBegin v plan = ((options : Values) × (waiting : Bool) × (snapshots : List ℕ) × IsPlan (due v options waiting snapshots) plan) ⊎ ((snapshots : List ℕ) × (full_plan v snapshots ≡ Some plan))
-
--- beside its lists the edit gives a next file number, or nothing
-pub record GivesOnlyLists (e : Edit) : Type 0 where
-  pub log_number : e.log_number ≡ None
-  pub last_sequence : e.last_sequence ≡ None
-  pub options : e.options ≡ None
 
 -- the edit of a job, with the number that the next new file gets
 abbrev pub with_next : ℕ → Edit → Edit
