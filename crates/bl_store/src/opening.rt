@@ -9,7 +9,7 @@ ghost use Rattle.bl_records.specs.Chance.{NoChanceMatch};
 ghost use Rattle.bl_folder.specs.Settled.{IsSettled};
 ghost use Rattle.bl_folder.specs.Stands.{IsSoundFolder, Stands};
 ghost use Rattle.bl_open.specs.Beginning.{IsWithin};
-ghost use Rattle.bl_open.specs.Recovering.{CutsAtBarrier, IsRefusal, TakesOver};
+ghost use Rattle.bl_open.specs.Recovering.{CutsAtBarrier, IsFull, IsRefusal, TakesOver};
 ghost use Rattle.bl_open.specs.declared.error.OpenErr.{OpenErr as OpenErrSpec};
 ghost use Rattle.bl_store.specs.Causes.{IsOpening, of_opening};
 ghost use Rattle.bl_store.specs.Held.{begun_with};
@@ -53,9 +53,10 @@ impl Store {
     /// From a settled disk whose folder stands for a map, a cut meanwhile leaves what one before might have left, but that one file may be
     /// there, empty, or a folder that stands for this map; at `Ok` the store stands on the disk for it, and no name call is in doubt.
     ///
-    /// Errors: `Corrupt` with the first damaged name and place, and `Differ` at the first option whose word is not the stored value, each
-    /// exactly where that comes first and neither `Disk` nor `OutOfMemory` is answered; the folder reads as before. `Disk`; `Full(10^15)`,
-    /// where the numbers are used up; `OutOfMemory`.
+    /// Errors, the first three exactly where neither `Disk` nor `OutOfMemory` is answered: `Corrupt` with the first damaged name and place,
+    /// and `Differ` at the first option whose word is not the stored value, each where that comes first; the folder reads as before.
+    /// `Full(10^15)`, where all this passes, and the opening would take more numbers than are left from the first one on. `Disk`;
+    /// `OutOfMemory`.
     pub fn open_site<S: Site>(alloc: Global, site: &mut S, asked: &Asked) -> Result<Store, StoreErr>
         ensures begun { IfOk result IsBegun }
         ensures takes { S.shows → IfOk result (λ store. TakesOver (folder_of (S.disk site.old)) asked.now (opened_of store)) }
@@ -67,7 +68,8 @@ impl Store {
         ensures keeps { S.shows → KeepsFound result (S.disk site.old) (S.disk site.new) }
         ensures answers { S.shows → AnswersAsRefused (folder_of (S.disk site.old)) asked.now result }
         ensures same { S.shows → (e : OpenErrSpec) → IsRefusal e → result ≡ Err (of_opening e) → folder_of (S.disk site.new) ≡ folder_of (S.disk site.old) }
-        ensures full { (n : ℕ) → result ≡ Err (StoreErr.Full n) → n ≡ 10 ^ 15 }
+        ensures full { (n : ℕ) → result ≡ Err (StoreErr.Full n) → (n ≡ 10 ^ 15) × (S.shows → IsFull (folder_of (S.disk site.old)) asked.now) }
+        ensures enough { S.shows → OnOk result (IsFull (folder_of (S.disk site.old)) asked.now → ⊥) }
         ensures tells_nothing { TellsNothing S.Site site.old site.new }
         ensures causes { IfErr result IsOpening }
         ensures disk { IsErrOf result StoreErr.Disk → Rose (S.disk_faults site.old) (S.disk_faults site.new) }

@@ -1,10 +1,12 @@
-use Rattle.std.proofs.Common.{refl, sym, subst}
+use Rattle.std.proofs.Common.{◌≡◌, ◌∙◌, ap, refl, sym, subst, Err}
 use Rattle.bl_site.specs.Disk.{folder_of}
 use Rattle.bl_open.specs.Beginning.{IsInPlace, IsOpened}
 use Rattle.bl_open.specs.Recovering.{TakesOver}
 use Rattle.bl_open.specs.declared.begin.Opened.{Opened}
+use Rattle.bl_open.specs.declared.error.OpenErr.TheVariants as opening
+use Rattle.bl_store.specs.declared.error.StoreErr.TheVariants as store
 use Rattle.bl_store.specs.Held.{begun_with, maps_of}
-use Rattle.bl_store.proofs.OpeningLemmas.{answers_err, answers_ok, opened_stands, opened_there, same_err}
+use Rattle.bl_store.proofs.OpeningLemmas.{answers_err, answers_ok, opened_stands, opened_there, same_answer, same_err}
 use Rattle.bl_store.proofs.store.Store.open_site.Goals as goal
 
 pub returns-in-Ok-clause-takes : goal.returns-in-Ok-clause-takes
@@ -38,3 +40,8 @@ returns-in-Err-clause-answers g c = λ shown. answers_err (folder_of (g.S.Site.d
 
 pub returns-in-Err-clause-same : goal.returns-in-Err-clause-same
 returns-in-Err-clause-same g c = λ shown. same_err c.in-Err.error c.into.result c.into.ensures (c.in-Err.ensures.same shown)
+
+pub returns-in-Err-clause-full : goal.returns-in-Err-clause-full
+returns-in-Err-clause-full g c = λ n is.
+    let told : c.into.result ≡ store.Full n = cc is in
+    c.in-Err.ensures.full n (ap Err (same_answer c.in-Err.error (opening.Full n) (sym c.into.ensures ∙ told)))
