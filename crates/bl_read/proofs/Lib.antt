@@ -1,4 +1,11 @@
+pub mod BoundLemmas
+pub mod FirstLemmas
 pub mod GivenLemmas
+pub mod MemoryLemmas
+pub mod MergingLemmas
+pub mod NextLemmas
+pub mod PairLemmas
+pub mod ScanLemmas
 pub mod TableLemmas
 pub mod ToldLemmas
 pub mod ValueLemmas

@@ -42,6 +42,17 @@ opened folder t r start keeps =
     ∙ ap (λ s. read_run s (folder (name_of (Table r.number)))) (sym start.size_is)
     ∙ keeps ∙ ap (λ es. Ok es) (sym start.whole)
 
+-- where all are opened
+module _ (folder : Folder) (tables : List NewTable) (i : ℕ) (t : NewTable) (lt : i < length tables) (is : t ≡ get_or tables i t) where
+  pub all_more : (runs : List TableView) (r : TableView) → IsReadAs folder t (entries_in r folder) → AllZip (IsReadAs folder) (take i tables) (map (λ r. entries_in r folder) runs)
+      → AllZip (IsReadAs folder) (take (i + 1) tables) (map (λ r. entries_in r folder) (runs ++ r ∷ []))
+  all_more runs r read zip =
+      let list : take (i + 1) tables ≡ take i tables ++ t ∷ [] = take_more tables i t lt ∙ ap (λ y. take i tables ++ y ∷ []) (sym is) in
+      let runs_are : map (λ r. entries_in r folder) (runs ++ r ∷ []) ≡ map (λ r. entries_in r folder) runs ++ entries_in r folder ∷ [] = map-append (λ r. entries_in r folder) runs (r ∷ []) in
+      subst (λ ts. AllZip (IsReadAs folder) ts (map (λ r. entries_in r folder) (runs ++ r ∷ []))) (sym list)
+      (subst (AllZip (IsReadAs folder) (take i tables ++ t ∷ [])) (sym runs_are) (zip_push (IsReadAs folder) (take i tables) (map (λ r. entries_in r folder) runs) t (entries_in r folder) zip read))
+
+-- where those are opened in whose range a key is
 module _ (folder : Folder) (key : List ℕ) (tables : List NewTable) (i : ℕ) (t : NewTable) (lt : i < length tables) (is : t ≡ get_or tables i t) where
   pub one_more : (runs : List TableView) (r : TableView) → may_have key t ≡ true → IsReadAs folder t (entries_in r folder)
       → AllZip (IsReadAs folder) (tables_for key (take i tables)) (map (λ r. entries_in r folder) runs)

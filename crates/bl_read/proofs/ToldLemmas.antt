@@ -1,6 +1,6 @@
 -- What the tables of a version tell of a user key, run by run.
 use Rattle.std.proofs.Common.{◌≡◌, ℕ, List, [], ◌∷◌, refl, sym, ◌∙◌, ap, subst, Option, Some, None, Result, Ok, Err, inl, inr}
-use Rattle.std.specs.Prelude.{Contains, IfOk, flat_map, map}
+use Rattle.std.specs.Prelude.{Contains, IfOk, IsSomeAnd, flat_map, map}
 use Rattle.std.specs.List.{AllByRecursion, AllZip}
 use Rattle.std.proofs.lemmas.List.Sorted.{Contains-permutation, IsPermutation-sym}
 use Rattle.bl_site.specs.Disk.{Folder, Name}
@@ -14,6 +14,8 @@ use Rattle.bl_merge.specs.Laws.{MergedIsAll}
 use Rattle.bl_merge.specs.Lists.{merged}
 use Rattle.bl_out.proofs.AmongLemmas.{Among, among_filter, among_parts, from_among, to_among}
 use Rattle.bl_cache.specs.Runs.{IsOutside, Keeps, Reads, TableView, entries_in}
+use Rattle.bl_read.specs.declared.bound.Bound.{Bound}
+use Rattle.bl_read.specs.Scanning.{first_told, is_told_at}
 use Rattle.bl_read.specs.Reading.{IsBadBlob, IsPut, IsReadAs, IsTold, LacksValue, may_have, tables_for}
 
 -- ---- of the runs that are merged
@@ -94,3 +96,29 @@ bad_blob all f g same tables key seq lists found e name read given is lacks =
       among = from_among s.entries e s.among;
       lacks = subst (λ (h : Folder). LacksValue h e name) same lacks;
     }
+
+-- ---- the same of what is told first from a bound on
+
+first_among : MergedIsAll → (bound : Bound) (seq : ℕ) (lists : List (List Entry)) (e : Entry) → first_told bound seq (merged lists) ≡ Some e → Among e (flat_map (λ es. es) lists)
+first_among all bound seq lists e found =
+    let there : Contains (merged lists) e = find_there (is_told_at bound seq) (merged lists) e found in
+    to_among (flat_map (λ es. es) lists) e (Contains-permutation (merged lists) (flat_map (λ es. es) lists) e (IsPermutation-sym (flat_map (λ es. es) lists) (merged lists) (all lists)) there)
+
+pub bad_first : MergedIsAll → (f g : Folder) → g ≡ f → (tables : List NewTable) (bound : Bound) (seq : ℕ) (lists : List (List Entry)) (found : Option Entry) (e : Entry) (name : Name)
+    → AllZip (IsReadAs f) tables lists → found ≡ first_told bound seq (merged lists) → found ≡ Some e → LacksValue g e name → IsBadBlob f tables name
+bad_first all f g same tables bound seq lists found e name read given is lacks =
+    let s = stands f tables lists e read (first_among all bound seq lists e (sym given ∙ is)) in
+    record {
+      table = s.table;
+      there = from_among tables s.table s.there;
+      entries = s.entries;
+      read = s.read;
+      entry = e;
+      among = from_among s.entries e s.among;
+      lacks = subst (λ (h : Folder). LacksValue h e name) same lacks;
+    }
+
+pub bad_some : MergedIsAll → (f g : Folder) → g ≡ f → (tables : List NewTable) (bound : Bound) (seq : ℕ) (lists : List (List Entry)) (found : Option Entry) (name : Name)
+    → AllZip (IsReadAs f) tables lists → found ≡ first_told bound seq (merged lists) → IsSomeAnd found (λ e. LacksValue g e name) → IsBadBlob f tables name
+bad_some all f g same tables bound seq lists None name read given lacks = absurd lacks
+bad_some all f g same tables bound seq lists (Some e) name read given lacks = bad_first all f g same tables bound seq lists (Some e) e name read given refl lacks

@@ -204,11 +204,11 @@ latest_same ties key seq lists others same =
 
 -- ---- what entries put, as a function
 
-abbrev flat : Option (Option (List ℕ)) → Option (List ℕ)
+abbrev pub flat : Option (Option (List ℕ)) → Option (List ℕ)
 flat None = None
 flat (Some put) = put
 
-abbrev put_in : Records → Entry → Option (List ℕ)
+abbrev pub put_in : Records → Entry → Option (List ℕ)
 put_in held e = flat (put_of held e.key.kind e)
 
 module _ (held : Records) where
@@ -241,7 +241,7 @@ pub record TableLaws : Type 0 where
   pub any : ValuesInAnyOrder
 
 module _ (laws : TableLaws) (folder : Folder) (v : View) (seq at : ℕ) (m : Map) (g : Gives folder v at m) (key : List ℕ) where
-  value_is : value_at g.found seq key ≡ option_and_then (put_in (records_by g.blobs)) (latest key seq (merged (map (λ t. t.entries) g.tables)))
+  pub value_is : value_at g.found seq key ≡ option_and_then (put_in (records_by g.blobs)) (latest key seq (merged (map (λ t. t.entries) g.tables)))
   value_is =
       let put : Entry → Option (List ℕ) = put_in (records_by g.blobs) in
       let all : List (List Entry) = map (λ t. t.entries) g.tables in
@@ -251,7 +251,7 @@ module _ (laws : TableLaws) (folder : Folder) (v : View) (seq at : ℕ) (m : Map
       laws.any g.found (map (revision_by put) (merged all)) seq key moved g.once ∙ laws.tells put (merged all) key seq (laws.order all)
 
   -- what is found puts what it is read to put
-  put_found : (found : Option Entry) → latest key seq (merged (map (λ t. t.entries) g.tables)) ≡ found → (put : Option (List ℕ)) → IsPut folder found put → put ≡ option_and_then (put_in (records_by g.blobs)) found
+  pub put_found : (found : Option Entry) → latest key seq (merged (map (λ t. t.entries) g.tables)) ≡ found → (put : Option (List ℕ)) → IsPut folder found put → put ≡ option_and_then (put_in (records_by g.blobs)) found
   put_found None is put told = told
   put_found (Some e) is put told =
       let among = subst (Among e) (table_entries_joined g.tables) (found_among laws.all (map (λ t. t.entries) g.tables) key seq e is) in

@@ -1,3 +1,5 @@
 pub mod Giving
 pub mod Laws
 pub mod Reading
+pub mod Scan
+pub mod Scanning

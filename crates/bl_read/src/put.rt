@@ -17,8 +17,10 @@ use bl_index::decode_index;
 use bl_site::Site;
 use std::alloc::Global;
 
-// A copy of these bytes.
-fn copied(alloc: Global, bytes: &[u8]) -> Result<Octets, RunErr>
+/// A copy of these bytes.
+///
+/// Errors: `OutOfMemory` alone.
+pub(crate) fn copied(alloc: Global, bytes: &[u8]) -> Result<Octets, RunErr>
     ensures copy { IfOk result (λ copy. copy ≡ bytes.now) }
     ensures memory { IfErr result (λ e. e ≡ RunErr.OutOfMemory) }
 {

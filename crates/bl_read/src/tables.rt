@@ -77,3 +77,28 @@ pub(crate) fn open_tables<S: Site>(
     }
     Ok(runs)
 }
+
+/// The runs of all tables.
+///
+/// Errors: `Corrupt`, only with the name of a table that is none; `Disk`, only where the disk failed in this call;
+/// `OutOfMemory`.
+pub(crate) fn open_all<S: Site>(
+    alloc: Global,
+    site: &mut S,
+    tables: &[NewTable],
+) -> Result<Vec<TableRun>, RunErr>
+    requires { AllByRecursion (λ t. IsTrue (table_fits t)) tables.now }
+    ensures read { S.shows → IfOk result (λ runs. AllZip (IsReadAs (folder_of (S.disk site.old))) tables.now (map (λ r. entries_in r (folder_of (S.disk site.old))) runs.items)) }
+    ensures keeps { S.shows → IfOk result (λ runs. AllByRecursion (λ r. Keeps r (folder_of (S.disk site.old))) runs.items) }
+    ensures corrupt { S.shows → (name : Name) (place : ℕ) → result ≡ Err (Corrupt name place) → IsBadTable (folder_of (S.disk site.old)) tables.now name }
+    ensures disk { IsErrOf result RunErr.Disk → Rose (S.disk_faults site.old) (S.disk_faults site.new) }
+    // The site is read, and nothing else.
+    ensures quiet { OnlyReads S.Site site.old site.new }
+{
+    let mut runs = Vec::new(alloc);
+    for table in tables {
+        let run = TableRun::open(alloc, site, table.number, table.size)?;
+        put_behind(&mut runs, run)?;
+    }
+    Ok(runs)
+}
