@@ -2,7 +2,7 @@
 
 ghost use Rattle.bl_cache.specs.Laws.{NamedAreRead, RunsAreTables, TablesAreRuns};
 
-/// A table is read as a run exactly where it is a table whose entries are in bounds, and the run has its entries.
+/// A run has the entries of the table that the file is, and a table whose entries are in bounds is read as a run.
 pub fn runs_are_tables()
     ensures table { RunsAreTables }
     ensures run { TablesAreRuns }

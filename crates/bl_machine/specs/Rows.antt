@@ -67,6 +67,6 @@ pub record Switches (script : List ℕ) : Type 0 where
 abbrev pub SecondPutSwitches : Type 0
 SecondPutSwitches = Switches (codes "put a =1\nput b =2\n")
 
--- A flush leaves no memory that waits and no bytes counted, whatever came before it.
+-- Behind two puts a flush leaves no memory that waits and no bytes counted, whatever the buffer.
 abbrev pub FlushEmpties : Type 0
 FlushEmpties = (o : Values) (h : HistoryOf o (codes "put a =1\nput b =2\nflush\n")) → (h.last.waits ≡ false) × (h.last.buffered ≡ 0)

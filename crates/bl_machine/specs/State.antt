@@ -12,7 +12,7 @@ pub record State : Type 0 where
   pub waits : Bool
   -- a job runs
   pub runs : Bool
-  -- the bytes written since memories were last switched
+  -- the bytes written since memories were last switched, flushed or reopened
   pub buffered : ℕ
 
 -- the state in which a run begins, on a folder that stands for this map and has these files

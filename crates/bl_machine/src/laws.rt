@@ -5,7 +5,7 @@ ghost use Rattle.bl_machine.specs.Rows.{EmptyIsRead, FlushEmpties, FlushedIsList
 
 use bl_entry::operations_change_the_map;
 
-/// From each state each line has a reply and a next state, and so has each script: what was told so far is always a front of
+/// From each state whose files are in order each line has a reply and a next state, and so has each script: what was told so far is always a front of
 /// the replies to the whole of it.
 pub fn the_machine_is_never_stuck()
     ensures line { LinesGoOn }
@@ -19,7 +19,7 @@ pub fn writes_make_the_map()
     operations_change_the_map();
 }
 
-/// The map after some lines is that after all that they wrote, and only some lines may change the files.
+/// The map after some lines is that after all that they wrote, and only writes, `flush` and `reopen` may change the files.
 pub fn lines_change_what_they_say()
     ensures maps { MapsFollowWrites }
     ensures files { OthersKeepFiles }
@@ -42,8 +42,8 @@ pub fn told_replies_decide()
     ensures history { ToldDecides }
 {}
 
-/// What some scripts tell: a put that is read again, the files of one flushed put with and without a blob file, and those of a
-/// store that has none.
+/// What some scripts tell: a put that is read again, the files of one flushed put with and without a blob file, those of a
+/// store that has none, and a flushed value of no byte, which is read.
 pub fn scripts_tell_the_rows()
     ensures read { PutIsRead }
     ensures flushed { FlushedIsListed }
@@ -52,7 +52,8 @@ pub fn scripts_tell_the_rows()
     ensures empty { EmptyIsRead }
 {}
 
-/// When writes switch memories, and that a flush leaves none that waits.
+/// Of two puts the second switches memories where the buffer holds the bytes of the first, and not where it holds one more; a flush behind
+/// them leaves none that waits and no bytes counted.
 pub fn memories_are_switched()
     ensures switches { SecondPutSwitches }
     ensures empties { FlushEmpties }

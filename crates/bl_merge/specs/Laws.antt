@@ -14,7 +14,7 @@ MergedIsAll = (lists : List (List Entry)) → IsPermutation (flat_map (λ es. es
 abbrev pub MergedIsInOrder : Type 0
 MergedIsInOrder = (lists : List (List Entry)) → AreInOrder (merged lists)
 
--- The entries that pass a test stand in the order in which they stood: so do those of one key.
+-- The entries that pass a test stand in order as they do where they alone are put in order.
 abbrev pub TiesStay : Type 0
 TiesStay = (test : Entry → Bool) (es : List Entry) → filter test (in_order es) ≡ in_order (filter test es)
 

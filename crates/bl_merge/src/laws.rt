@@ -2,8 +2,8 @@
 
 ghost use Rattle.bl_merge.specs.Laws.{MergedIsAll, MergedIsInOrder, TiesStay, LatestTellsTheValue};
 
-/// A merged list has the entries of all lists, in key order, and those of one key as they stood, the lists one
-/// after the other.
+/// A merged list has the entries of all lists, in key order; those that pass a test stand in it as they do where
+/// they alone are put in order.
 pub fn merged_lists_are_in_order()
     ensures all { MergedIsAll }
     ensures order { MergedIsInOrder }

@@ -178,8 +178,8 @@ impl<R: Run> Merged<R> {
     }
 
     /// Gives the first entry of what it has yet to give, and moves behind it; None where there is none. Entries are
-    /// given in key order, those of equal keys in the order of the runs. One call looks at as many entries in hand as
-    /// a heap of the runs is high, and copies none.
+    /// given in key order, those of equal keys in the order of the runs. One call looks at some multiple of as
+    /// many entries in hand as a heap of the runs is high, and copies none.
     ///
     /// Errors: those of `seek`, each as there; but it has yet to give what it had before.
     pub fn next<S: Site>(&mut self, site: &mut S) -> Result<Option<Entry>, RunErr>
