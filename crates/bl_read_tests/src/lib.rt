@@ -1,10 +1,18 @@
-//! Tests of reading: tables merged, and values of blob files, over folders in memory.
+//! Tests of reading: tables merged, values of blob files, and what versions and memories tell, over folders in memory.
 #![tactic(auto)]
 
+#[cfg(test)]
+mod damage;
+#[cfg(test)]
+mod finds;
 #[cfg(test)]
 mod folders;
 #[cfg(test)]
 mod merged;
+#[cfg(test)]
+mod samples;
+#[cfg(test)]
+mod scans;
 #[cfg(test)]
 mod tables;
 #[cfg(test)]
