@@ -6,6 +6,8 @@ pub mod MergingLemmas
 pub mod NextLemmas
 pub mod PairLemmas
 pub mod ScanLemmas
+pub mod SeenLemmas
+pub mod SoundLemmas
 pub mod TableLemmas
 pub mod ToldLemmas
 pub mod ValueLemmas

@@ -3,3 +3,4 @@ pub mod Laws
 pub mod Reading
 pub mod Scan
 pub mod Scanning
+pub mod Sound

@@ -1,8 +1,10 @@
 //! What holds of what is given to readers: a caller that needs one of these calls it.
 
 ghost use Rattle.bl_read.specs.Laws.{GivenAreWhole, GivenMapsAreOne};
+ghost use Rattle.bl_read.specs.Sound.{SoundFoldersGiveTheirMap};
 
 use bl_cache::{named_are_read, runs_are_tables};
+use bl_folder::held_are_whole;
 
 /// What a version and the memories beside it give at a sequence makes one map.
 pub fn given_maps_are_one()
@@ -15,4 +17,12 @@ pub fn given_versions_are_whole()
 {
     runs_are_tables();
     named_are_read();
+}
+
+/// Where a folder stands for a map, its version and the memories that have what the batches in its logs write give
+/// readers exactly that map: so a reading call answers by it, and never Corrupt.
+pub fn sound_folders_give_their_map()
+    ensures { SoundFoldersGiveTheirMap }
+{
+    held_are_whole();
 }
