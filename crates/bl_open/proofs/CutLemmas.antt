@@ -43,7 +43,7 @@ none_longer [] handed le e = refl
 none_longer (t ∷ tail) handed le e = let none : length handed ≡ 0 = ap length e in absurd (omega (arith, none, le))
 
 -- a synced file is left as it is written,
-left_written : (o : Option File) (p : Option (List ℕ)) → IsLeft o p → ((x : File) → o ≡ Some x → IsSyncedFile x) → p ≡ option_map (λ x. x.front ++ x.handed) o
+pub left_written : (o : Option File) (p : Option (List ℕ)) → IsLeft o p → ((x : File) → o ≡ Some x → IsSyncedFile x) → p ≡ option_map (λ x. x.front ++ x.handed) o
 left_written None None l synced = refl
 left_written None (Some bytes) l synced = absurd l
 left_written (Some x) None l synced = absurd l

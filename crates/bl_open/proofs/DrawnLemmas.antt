@@ -14,7 +14,7 @@ use Rattle.bl_build.specs.Restoring.{Restored}
 use Rattle.bl_out.specs.Quiet.{IsNoneOf}
 use Rattle.bl_out.specs.States.{names_of}
 use Rattle.bl_folder.specs.Flushes.{IsBelow}
-use Rattle.bl_folder.specs.Laws.{CutsOfSynced, Frame, LiveIsVersion}
+use Rattle.bl_folder.specs.Laws.{CutsOfSynced, Frame, LiveIsOne, LiveIsVersion}
 use Rattle.bl_folder.specs.Live.{IsLive}
 use Rattle.bl_folder.specs.Needed.{IsNeeded}
 use Rattle.bl_folder.specs.Quiet.{NoneIsNeeded, QuietCutsAreLike, QuietCutsKeepNeeded}
@@ -24,6 +24,7 @@ use Rattle.bl_folder.specs.Files.{log_bytes}
 use Rattle.bl_folder.proofs.Finding.{from_test}
 use Rattle.bl_entry.proofs.ItemLemmas.{all_of_map}
 use Rattle.bl_open.proofs.FrameLemmas.{apart, contains_all, needed_number, synced_same}
+use Rattle.bl_open.proofs.RestingLemmas.{left_for, whole_but}
 use Rattle.bl_open.specs.Flushing.{CutsBesideRest, DrawnAreUnneeded, IsOther, OthersKeepRest, drawn}
 
 -- the numbers of a range
@@ -118,12 +119,13 @@ others_keep_rest names versions frame from manifest live m old new below others 
         ap (λ b. cond b (unwrap_or (file (folder_of new) (Log n)) []) []) t
         ∙ ap (λ o. unwrap_or o []) (same (Log n) (from_test n t, le) ∙ none_is (file (folder_of old) (Log n)) absent)
 
-pub cuts_beside_rest : NamesOne → LiveIsVersion → Frame → QuietCutsAreLike → QuietCutsKeepNeeded → CutsOfSynced → CutsBesideRest
-cuts_beside_rest names versions frame alike keep synced from next manifest live m disk told c least most below rest cut =
+pub cuts_beside_rest : NamesOne → LiveIsOne → LiveIsVersion → Frame → QuietCutsAreLike → QuietCutsKeepNeeded → CutsOfSynced → CutsBesideRest
+cuts_beside_rest names one versions frame alike keep synced from next manifest live m disk told c least most below rest cut =
     let none : NoneIsNeeded (drawn from next) manifest live = drawn_are_unneeded names versions (folder_of disk) from next manifest live rest.is_live least most below in
     let like = alike (drawn from next) disk told c cut in
     let left = synced disk told like.cut manifest live m rest.is_live rest.stands rest.synced like.is_cut in
+    let framed = frame like.cut.folder c.folder manifest live m left.0 left.1 (keep (drawn from next) disk told c manifest live none like) in
     record {
       told_is = cut.told_is;
-      stands = (frame like.cut.folder c.folder manifest live m left.0 left.1 (keep (drawn from next) disk told c manifest live none like)).1;
+      left = left_for one manifest live m c framed.0 framed.1 (whole_but (drawn from next) disk told c manifest live none rest.synced cut);
     }

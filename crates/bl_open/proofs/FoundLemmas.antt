@@ -20,11 +20,11 @@ use Rattle.bl_out.specs.Quiet.{IsNoneOf}
 use Rattle.bl_build.specs.Versions.{IsVersion}
 use Rattle.bl_edit.specs.Bounds.{is_number}
 use Rattle.bl_folder.proofs.Finding.{by_number, from_test}
-use Rattle.bl_open.proofs.RestingLemmas.{fresh_left}
+use Rattle.bl_open.proofs.RestingLemmas.{fresh_left, left_for, whole_but}
 use Rattle.std.specs.Prelude.{unwrap_or}
 use Rattle.bl_folder.specs.Laws.{CutsOfSynced, Frame, LiveIsOne, LiveIsVersion, SyncedAreSettled}
 use Rattle.bl_open.specs.SteadyCalls.{IsAtRest, IsLoose, IsSpare, KeepsAllBut, Rests}
-use Rattle.bl_open.specs.SteadyLaws.{CutsOfResting, NewLogsKeepRest, QuietKeepsRest, SettledRest, SparesKeepRest}
+use Rattle.bl_open.specs.SteadyLaws.{CutsOfRest, NewLogsKeepRest, QuietKeepsRest, SettledRest, SparesKeepRest}
 use Rattle.bl_folder.specs.Flushes.{IsBelow}
 use Rattle.bl_open.proofs.FrameLemmas.{apart, contains_all, needed_number, synced_same}
 use Rattle.bl_open.specs.Found.{Found, IsFoundAs, IsFrom, IsSpareFor, IsSpareName, RestsAs}
@@ -117,8 +117,9 @@ pub fresh_rests : FreshRests
 fresh_rests disk (inl s) fresh = (fresh, s.1, refl)
 fresh_rests disk (inr s) fresh = absurd (no_current (folder_of disk) s.manifest s.live fresh.current s.is_live)
 
-pub cuts_of : CutsOfResting → CutsOfRestsAs
-cuts_of law found m disk told c r cut = law m disk told c (rests_of found m disk r) cut
+pub cuts_of : CutsOfRest → CutsOfRestsAs
+cuts_of law None m disk told c r cut = inl (fresh_left disk told c cut r.0 r.1, r.2)
+cuts_of law (Some found) m disk told c r cut = law found.0 found.1 m disk told c r cut
 
 -- ---- other files, by their names
 
@@ -159,17 +160,18 @@ spares_touched one versions quiet (Some found) m names old new spare others r =
     let v = versions (folder_of old) found.0 found.1 r.is_live in
     quiet found.0 found.1 m old new r (λ f needed. inl (others (name_of f) (spare_none one found.0 found.1 r.is_live.number v names spare f needed)))
 
-pub spares_cut : NamesOne → LiveIsVersion → Frame → CutsOfSynced → QuietCutsAreLike → QuietCutsKeepNeeded → SparesCut
-spares_cut one versions frame cuts like keep None m names disk told c spare cut r =
+pub spares_cut : NamesOne → LiveIsOne → LiveIsVersion → Frame → CutsOfSynced → QuietCutsAreLike → QuietCutsKeepNeeded → SparesCut
+spares_cut one single versions frame cuts like keep None m names disk told c spare cut r =
     let l = like names disk told c cut in
     let left = fresh_left disk told l.cut l.is_cut r.0 r.1 in
     inl (fresh_from l.cut.folder c.folder left (λ f has kept. l.folder (name_of f) (loose_none one names spare f has kept)), r.2)
-spares_cut one versions frame cuts like keep (Some found) m names disk told c spare cut r =
+spares_cut one single versions frame cuts like keep (Some found) m names disk told c spare cut r =
     let l = like names disk told c cut in
     let v = versions (folder_of disk) found.0 found.1 r.is_live in
     let away = spare_none one found.0 found.1 r.is_live.number v names spare in
     let left = cuts disk told l.cut found.0 found.1 m r.is_live r.stands r.synced l.is_cut in
-    (frame l.cut.folder c.folder found.0 found.1 m left.0 left.1 (keep names disk told c found.0 found.1 away l)).1
+    let framed = frame l.cut.folder c.folder found.0 found.1 m left.0 left.1 (keep names disk told c found.0 found.1 away l) in
+    left_for single found.0 found.1 m c framed.0 framed.1 (whole_but names disk told c found.0 found.1 away r.synced cut)
 
 -- ---- settled
 

@@ -42,3 +42,4 @@ mod KeepLemmas
 mod OneMemory
 mod FullLemmas
 pub mod SyncedLemmas
+mod LeavingLemmas

@@ -26,10 +26,10 @@ use Rattle.bl_open.proofs.StartLemmas.{side_before, then_side, then_stands}
 use Rattle.bl_open.specs.Barrier.{IsOnEitherSide}
 use Rattle.bl_open.specs.Beginning.{HoldsLoaded, IsFoundIn, StartsFrom, first_file}
 use Rattle.bl_open.specs.Flushing.{FlushedHaveTables, HasFlushed, JobEditsApply, KeepsOthers, OthersKeepRest, all_flushed}
-use Rattle.bl_open.specs.Found.{AreAllBelow, Found, HasTables, IsSpareFor, RestsAs}
+use Rattle.bl_open.specs.Found.{AreAllBelow, Found, HasTables, IsLeftAs, IsSpareFor, RestsAs}
 use Rattle.bl_open.specs.OpeningLaws.{CutsOfRestsAs, NewNumbersAreSpare, RestsAreRests, RestsAreSettled}
 use Rattle.bl_open.specs.SteadyCalls.{IsAtRest}
-use Rattle.bl_open.specs.SteadyCuts.{LeavesStanding}
+use Rattle.bl_open.specs.SteadyCuts.{IsLeftFor, LeavesStanding}
 use Rattle.bl_open.specs.Steady.{Maps}
 use Rattle.bl_open.specs.declared.begin.Loaded.{Loaded}
 
@@ -87,11 +87,11 @@ none_of xs x ys e none = cc (e, none)
 
 module _ {D : Type 0} (g : Ghosts D) (found : Found) (h : Holding) (m : Map) (l : Loaded) (old : D) (s : StartsFrom found h m l (g.disk old)) (now : OnlyNow g old) where
   -- no call was made
-  pub no_sides : (first : Name) → LeavesOnly g.clock g.left_since old old (IsOnEitherSide first (g.may_be old) m (g.told old))
-  no_sides first = side_before g first m old old (all_before g first old old (none_found g old now))
+  pub no_sides : (first : Name) → LeavesOnly g.clock g.left_since old old (IsOnEitherSide first (g.may_be old) (IsLeftAs found m) (g.told old))
+  no_sides first = side_before g first (IsLeftAs found m) old old (all_before g first old old (none_found g old now))
 
-  pub no_cuts : CutsOfRestsAs → IsSure g old → LeavesOnly g.clock g.left_since old old (LeavesStanding m (g.told old))
-  no_cuts law sure = rest_start g (RestsAs found m) m (law found m) old now sure s.rests
+  pub no_cuts : CutsOfRestsAs → IsSure g old → LeavesOnly g.clock g.left_since old old (LeavesStanding (IsLeftAs found m) (g.told old))
+  no_cuts law sure = rest_start g (RestsAs found m) (IsLeftAs found m) (law found m) old now sure s.rests
 
   pub no_settled : RestsAreRests → RestsAreSettled → IsSettled (g.disk old)
   no_settled rests settled = settled m (g.disk old) (rests found m (g.disk old) s.rests)
@@ -109,49 +109,51 @@ module _ {D : Type 0} (g : Ghosts D) (found : Found) (h : Holding) (m : Map) (l 
 
     abbrev FlushSides : Type 0
     FlushSides = (manifest : ℕ) (live : Restored) (n : Map) → IsAtRest manifest live n (g.disk old) → IsBelow numbers live.version
-        → LeavesOnly g.clock g.left_since old mid (IsOnEitherSide (name_of (Table numbers)) (g.may_be old) n (g.told old))
+        → LeavesOnly g.clock g.left_since old mid (IsOnEitherSide (name_of (Table numbers)) (g.may_be old) (IsLeftFor n) (g.told old))
 
     abbrev FlushCuts : Type 0
-    FlushCuts = (manifest : ℕ) (live : Restored) (n : Map) → IsAtRest manifest live n (g.disk old) → IsBelow numbers live.version → LeavesOnly g.clock g.left_since old mid (LeavesStanding n (g.told old))
+    FlushCuts = (manifest : ℕ) (live : Restored) (n : Map) → IsAtRest manifest live n (g.disk old) → IsBelow numbers live.version → LeavesOnly g.clock g.left_since old mid (LeavesStanding (IsLeftFor n) (g.told old))
 
     -- a memory that holds an entry was found in a folder that is not fresh
-    of_found : {P : Type 0} (f : Found) → IsFoundIn f h l.memory → RestsAs f m (g.disk old) → AreAllBelow l.first f → (l.memory ≡ [] → ⊥)
-        → ((x : ℕ × Restored) → IsAtRest x.0 x.1 m (g.disk old) → AreAllBelow l.first (Some x) → P) → P
-    of_found None is rests below some to = absurd (some is)
-    of_found (Some x) is rests below some to = to x rests below
+    of_found : (P : Found → Type 0) (f : Found) → IsFoundIn f h l.memory → RestsAs f m (g.disk old) → AreAllBelow l.first f → (l.memory ≡ [] → ⊥)
+        → ((x : ℕ × Restored) → IsAtRest x.0 x.1 m (g.disk old) → AreAllBelow l.first (Some x) → P (Some x)) → P f
+    of_found P None is rests below some to = absurd (some is)
+    of_found P (Some x) is rests below some to = to x rests below
 
-    pub flush_sides : FlushSides → LeavesOnly g.clock g.left_since old mid (IsOnEitherSide (first_file l.memory l.first) (g.may_be old) m (g.told old))
+    pub flush_sides : FlushSides → LeavesOnly g.clock g.left_since old mid (IsOnEitherSide (first_file l.memory l.first) (g.may_be old) (IsLeftAs found m) (g.told old))
     flush_sides sides = by l.memory refl
       where
-        by : (es : List Entry) → l.memory ≡ es → LeavesOnly g.clock g.left_since old mid (IsOnEitherSide (first_file es l.first) (g.may_be old) m (g.told old))
-        by [] e = subst (λ d. LeavesOnly g.clock g.left_since old d (IsOnEitherSide (first_file [] l.first) (g.may_be old) m (g.told old))) (sym (idle e)) (no_sides (first_file [] l.first))
-        by (x ∷ xs) e = of_found found s.found_in s.rests s.below (none_of l.memory x xs e)
-            (λ f rest below. subst (λ n. LeavesOnly g.clock g.left_since old mid (IsOnEitherSide (name_of (Table n)) (g.may_be old) m (g.told old))) at (sides f.0 f.1 m rest (below_now f below)))
+        by : (es : List Entry) → l.memory ≡ es → LeavesOnly g.clock g.left_since old mid (IsOnEitherSide (first_file es l.first) (g.may_be old) (IsLeftAs found m) (g.told old))
+        by [] e = subst (λ d. LeavesOnly g.clock g.left_since old d (IsOnEitherSide (first_file [] l.first) (g.may_be old) (IsLeftAs found m) (g.told old))) (sym (idle e)) (no_sides (first_file [] l.first))
+        by (x ∷ xs) e = of_found (λ f. LeavesOnly g.clock g.left_since old mid (IsOnEitherSide (first_file (x ∷ xs) l.first) (g.may_be old) (IsLeftAs f m) (g.told old)))
+            found s.found_in s.rests s.below (none_of l.memory x xs e)
+            (λ f rest below. subst (λ n. LeavesOnly g.clock g.left_since old mid (IsOnEitherSide (name_of (Table n)) (g.may_be old) (IsLeftFor m) (g.told old))) at (sides f.0 f.1 m rest (below_now f below)))
 
-    pub flush_cuts : FlushCuts → IsSure g old → LeavesOnly g.clock g.left_since old mid (LeavesStanding m (g.told old))
+    pub flush_cuts : FlushCuts → IsSure g old → LeavesOnly g.clock g.left_since old mid (LeavesStanding (IsLeftAs found m) (g.told old))
     flush_cuts cuts sure = by l.memory refl
       where
-        by : (es : List Entry) → l.memory ≡ es → LeavesOnly g.clock g.left_since old mid (LeavesStanding m (g.told old))
-        by [] e = subst (λ d. LeavesOnly g.clock g.left_since old d (LeavesStanding m (g.told old))) (sym (idle e)) (no_cuts cuts_law sure)
-        by (x ∷ xs) e = of_found found s.found_in s.rests s.below (none_of l.memory x xs e) (λ f rest below. cuts f.0 f.1 m rest (below_now f below))
+        by : (es : List Entry) → l.memory ≡ es → LeavesOnly g.clock g.left_since old mid (LeavesStanding (IsLeftAs found m) (g.told old))
+        by [] e = subst (λ d. LeavesOnly g.clock g.left_since old d (LeavesStanding (IsLeftAs found m) (g.told old))) (sym (idle e)) (no_cuts cuts_law sure)
+        by (x ∷ xs) e = of_found (λ f. LeavesOnly g.clock g.left_since old mid (LeavesStanding (IsLeftAs f m) (g.told old)))
+            found s.found_in s.rests s.below (none_of l.memory x xs e) (λ f rest below. cuts f.0 f.1 m rest (below_now f below))
 
     -- and then the log and what is installed
     module _ (new : D) (same : g.told mid ≡ g.told old) (passed : 1 ≤ length l.memory → g.certain mid) where
-      pub store_sides : FlushSides → LeavesOnly g.clock g.left_since mid new (IsOnEitherSide (log_name (l.first + 1)) (g.may_be mid) m (g.told mid))
-          → (g.certain mid → LeavesOnly g.clock g.left_since mid new (LeavesStanding m (g.told mid)))
-          → LeavesOnly g.clock g.left_since old new (IsOnEitherSide (first_file l.memory l.first) (g.may_be old) m (g.told old))
+      pub store_sides : FlushSides → LeavesOnly g.clock g.left_since mid new (IsOnEitherSide (log_name (l.first + 1)) (g.may_be mid) (IsLeftAs found m) (g.told mid))
+          → (g.certain mid → LeavesOnly g.clock g.left_since mid new (LeavesStanding (IsLeftAs found m) (g.told mid)))
+          → LeavesOnly g.clock g.left_since old new (IsOnEitherSide (first_file l.memory l.first) (g.may_be old) (IsLeftAs found m) (g.told old))
       store_sides sides then_sides then_cuts = by l.memory refl
         where
-          by : (es : List Entry) → l.memory ≡ es → LeavesOnly g.clock g.left_since old new (IsOnEitherSide (first_file es l.first) (g.may_be old) m (g.told old))
-          by [] e = subst (λ d. LeavesOnly g.clock g.left_since d new (IsOnEitherSide (log_name (l.first + 1)) (g.may_be d) m (g.told d))) (idle e) then_sides
+          by : (es : List Entry) → l.memory ≡ es → LeavesOnly g.clock g.left_since old new (IsOnEitherSide (first_file es l.first) (g.may_be old) (IsLeftAs found m) (g.told old))
+          by [] e = subst (λ d. LeavesOnly g.clock g.left_since d new (IsOnEitherSide (log_name (l.first + 1)) (g.may_be d) (IsLeftAs found m) (g.told d))) (idle e) then_sides
           by (x ∷ xs) e =
-              then_side g (first_file (x ∷ xs) l.first) m old mid new same
-              (subst (λ es. LeavesOnly g.clock g.left_since old mid (IsOnEitherSide (first_file es l.first) (g.may_be old) m (g.told old))) e (flush_sides sides))
+              then_side g (first_file (x ∷ xs) l.first) (IsLeftAs found m) old mid new same
+              (subst (λ es. LeavesOnly g.clock g.left_since old mid (IsOnEitherSide (first_file es l.first) (g.may_be old) (IsLeftAs found m) (g.told old))) e (flush_sides sides))
               (then_cuts (passed (some_entry l.memory x xs e)))
 
-      pub store_cuts : FlushCuts → IsSure g old → g.certain old → (g.certain mid → LeavesOnly g.clock g.left_since mid new (LeavesStanding m (g.told mid)))
-          → LeavesOnly g.clock g.left_since old new (LeavesStanding m (g.told old))
-      store_cuts cuts sure certain then_cuts = then_stands g (log_name (l.first + 1)) m old mid new same (flush_cuts cuts sure) (then_cuts certain_now)
+      pub store_cuts : FlushCuts → IsSure g old → g.certain old → (g.certain mid → LeavesOnly g.clock g.left_since mid new (LeavesStanding (IsLeftAs found m) (g.told mid)))
+          → LeavesOnly g.clock g.left_since old new (LeavesStanding (IsLeftAs found m) (g.told old))
+      store_cuts cuts sure certain then_cuts = then_stands g (log_name (l.first + 1)) (IsLeftAs found m) old mid new same (flush_cuts cuts sure) (then_cuts certain_now)
         where
           certain_now : g.certain mid
           certain_now = by l.memory refl

@@ -1,15 +1,16 @@
 -- What a cut leaves, from call to call.
-use Rattle.std.proofs.Common.{◌≡◌, ◌≢◌, ◌⊎◌, inl, inr, ⊎_elim, ℕ, ◌≤◌, List, [], Option, None, Some, IsSome, refl, sym, ◌∙◌, ap, subst, arith, append-nil}
+use Rattle.std.proofs.Common.{◌≡◌, ◌≢◌, ◌⊎◌, inl, inr, ⊎_elim, ℕ, ◌≤◌, ◌++◌, List, [], Option, None, Some, refl, sym, ◌∙◌, ap, subst, arith, append-nil}
 use Rattle.std.specs.Option.{option_map}
 use Rattle.bl_site.specs.Disk.{Name, File, Folder, Disk, Cut, IsRemnant, IsLeft, IsImage, IsCut, MayLeave, written_of}
 use Rattle.bl_site.specs.Calls.{Creates, Syncs, Frays, MayDuring, FollowsFile, Elapses, LeavesOnly}
 use Rattle.bl_site.specs.declared.site.Site.{Ghosts}
 use Rattle.bl_site.proofs.Moments.{started, goes_on, joins, widened, cut_of_only, certain_call, name_call}
 use Rattle.bl_site.proofs.Images.{sync_narrows, left_at, left_but, whole_remnant}
-use Rattle.bl_entry.specs.Revisions.{Map}
-use Rattle.bl_folder.specs.Stands.{Stands}
+use Rattle.bl_entry.proofs.ItemLemmas.{some_is}
 use Rattle.bl_open.specs.SteadyCuts.{LeavesStanding}
-use Rattle.bl_open.specs.Barrier.{BeforeBarrier, FindsNoNewFile, HasEmptyFile, IsOnEitherSide, LeavesFound, MakesNoFile, StandsBehind}
+use Rattle.bl_open.specs.Barrier.{BeforeBarrier, FindsFiles, FindsOrLeaves, HasEmptyFile, IsOnEitherSide, IsWrittenOrSynced, LeavesFound, SyncsSome}
+use Rattle.bl_open.specs.Synced.{synced_file}
+use Rattle.bl_open.proofs.OutcomeLemmas.{synced_others}
 use Rattle.bl_open.proofs.SyncLemmas.{same_name}
 
 -- ---- what a cut before might have left
@@ -89,17 +90,97 @@ while_made name may_be told c leaves =
     })
     leaves.possible
 
--- a file that a cut finds is on the disk
-left_there : (o : Option File) (p : Option (List ℕ)) → IsLeft o p → IsSome p → IsSome o
-left_there None None l some = some
-left_there None (Some b) l some = absurd l
-left_there (Some x) p l some = refl
+-- ---- the files that were there
 
-pub no_new_in : (disk : Disk) (told : List ℕ) (c : Cut) → IsCut disk told c → FindsNoNewFile disk c
-no_new_in disk told c is name some = left_there (disk name) (c.folder name) (is.image name) some
+abbrev read_in : Option File → Option (List ℕ)
+read_in o = option_map (λ (x : File). x.read) o
 
-none_some : IsSome {T = File} None → ⊥
-none_some e = cc e
+abbrev written_in : Option File → Option (List ℕ)
+written_in o = option_map (λ (x : File). x.front ++ x.handed) o
+
+pub files_in : (disk : Disk) (told : List ℕ) (c : Cut) → IsCut disk told c → FindsFiles disk told c
+files_in disk told c is = record { told_is = is.told_is; image = is.image; written = λ name. inl (is.written_is name) }
+
+-- a synced file is left as it reads
+left_synced : (x : File) (o : Option (List ℕ)) → IsLeft (Some (synced_file x)) o → o ≡ Some x.read
+left_synced x None l = absurd l
+left_synced x (Some bytes) l = ap Some (whole_remnant _ bytes refl l)
+
+read_left : (x : File) (o : Option (List ℕ)) → IsRemnant x x.read → o ≡ Some x.read → IsLeft (Some x) o
+read_left x o whole is = subst (λ (p : Option (List ℕ)). IsLeft (Some x) p) (sym is) whole
+
+-- a sync of one file, whatever was answered
+module _ (name : Name) (old new : Disk) (remnant : (file : File) → old name ≡ Some file → IsRemnant file file.read) where
+  file_written : (new ≡ old) ⊎ (Syncs name old new ⊎ Frays name old new) → (c : Cut) → c.written name ≡ written_of new name → IsLeft (new name) (c.folder name) → IsWrittenOrSynced old c name
+  file_written (inl same) c is left = inl (is ∙ ap (λ (d : Disk). written_of d name) same)
+  file_written (inr (inl s)) c is left =
+      let was : read_in (old name) ≡ Some s.file.read = ap read_in s.was in
+      inr (
+        is ∙ ap written_in s.puts.at ∙ ap Some (append-nil s.file.read) ∙ sym was,
+        left_synced s.file (c.folder name) (subst (λ (o : Option File). IsLeft o (c.folder name)) s.puts.at left) ∙ sym was,
+      )
+  file_written (inr (inr f)) c is left = inl (is ∙ ap written_in f.puts.at ∙ sym (ap written_in f.was))
+
+  module _ (outcome : (new ≡ old) ⊎ (Syncs name old new ⊎ Frays name old new)) (told : List ℕ) (c : Cut) (cut : IsCut new told c) where
+    image_at : (other : Name) → (other ≡ name) ⊎ (other ≢ name) → IsLeft (old other) (c.folder other)
+    image_at other (inl same) = subst (λ (n : Name). IsLeft (old n) (c.folder n)) (sym same) (sync_narrows name old new remnant outcome (c.folder name) (cut.image name))
+    image_at other (inr ne) = subst (λ (o : Option File). IsLeft o (c.folder other)) (synced_others name old new outcome other ne) (cut.image other)
+
+    written_at : (other : Name) → (other ≡ name) ⊎ (other ≢ name) → IsWrittenOrSynced old c other
+    written_at other (inl same) = subst (λ (n : Name). IsWrittenOrSynced old c n) (sym same) (file_written outcome c (cut.written_is name) (cut.image name))
+    written_at other (inr ne) = inl (cut.written_is other ∙ ap written_in (synced_others name old new outcome other ne))
+
+    pub synced_in : FindsFiles old told c
+    synced_in = record {
+      told_is = cut.told_is;
+      image = λ other. image_at other (same_name other name);
+      written = λ other. written_at other (same_name other name);
+    }
+
+-- some files were synced
+pub some_synced : (name : Name) (old new : Disk) → Syncs name old new → SyncsSome old new
+some_synced name old new s other = by (same_name other name)
+  where
+    by : (other ≡ name) ⊎ (other ≢ name) → (new other ≡ old other) ⊎ ((x : File) × (old other ≡ Some x) × (new other ≡ Some (synced_file x)))
+    by (inl same) = inr (s.file, ap old same ∙ s.was, ap new same ∙ s.puts.at)
+    by (inr ne) = inl (s.puts.others other ne)
+
+pub none_synced : (old new : Disk) → new ≡ old → SyncsSome old new
+none_synced old new same name = inl (ap (λ (d : Disk). d name) same)
+
+pub some_then : (old mid new : Disk) → SyncsSome old mid → SyncsSome mid new → SyncsSome old new
+some_then old mid new first second name = by (first name) (second name)
+  where
+    by : (mid name ≡ old name) ⊎ ((x : File) × (old name ≡ Some x) × (mid name ≡ Some (synced_file x))) → (new name ≡ mid name) ⊎ ((x : File) × (mid name ≡ Some x) × (new name ≡ Some (synced_file x)))
+        → (new name ≡ old name) ⊎ ((x : File) × (old name ≡ Some x) × (new name ≡ Some (synced_file x)))
+    by (inl was) (inl same) = inl (same ∙ was)
+    by (inl was) (inr y) = inr (y.0, sym was ∙ y.1, y.2)
+    by (inr x) (inl same) = inr (x.0, x.1, same ∙ x.2)
+    by (inr x) (inr y) = inr (x.0, x.1, y.2 ∙ ap (λ (f : File). Some (synced_file f)) (some_is (sym y.1 ∙ x.2)))
+
+module _ (old mid : Disk) (remnant : (name : Name) (x : File) → old name ≡ Some x → IsRemnant x x.read) (some : SyncsSome old mid) (told : List ℕ) (c : Cut) (finds : FindsFiles mid told c) where
+  abbrev Same : Name → Type 0
+  Same name = (mid name ≡ old name) ⊎ ((x : File) × (old name ≡ Some x) × (mid name ≡ Some (synced_file x)))
+
+  left_so : (name : Name) (x : File) → mid name ≡ Some (synced_file x) → c.folder name ≡ Some x.read
+  left_so name x is = left_synced x (c.folder name) (subst (λ (o : Option File). IsLeft o (c.folder name)) is (finds.image name))
+
+  through_image : (name : Name) → Same name → IsLeft (old name) (c.folder name)
+  through_image name (inl same) = subst (λ (o : Option File). IsLeft o (c.folder name)) same (finds.image name)
+  through_image name (inr x) = subst (λ (o : Option File). IsLeft o (c.folder name)) (sym x.1) (read_left x.0 (c.folder name) (remnant name x.0 x.1) (left_so name x.0 x.2))
+
+  through_written : (name : Name) → Same name → IsWrittenOrSynced mid c name → IsWrittenOrSynced old c name
+  through_written name (inl same) (inl is) = inl (is ∙ ap written_in same)
+  through_written name (inl same) (inr p) = inr (p.0 ∙ ap read_in same, p.1 ∙ ap read_in same)
+  through_written name (inr x) (inl is) = inr (is ∙ ap written_in x.2 ∙ ap Some (append-nil x.0.read) ∙ sym (ap read_in x.1), left_so name x.0 x.2 ∙ sym (ap read_in x.1))
+  through_written name (inr x) (inr p) = inr (p.0 ∙ ap read_in x.2 ∙ sym (ap read_in x.1), left_so name x.0 x.2 ∙ sym (ap read_in x.1))
+
+  pub files_through : FindsFiles old told c
+  files_through = record {
+    told_is = finds.told_is;
+    image = λ name. through_image name (some name);
+    written = λ name. through_written name (some name) (finds.written name);
+  }
 
 -- ---- moments
 
@@ -124,8 +205,9 @@ module _ {D : Type 0} (g : Ghosts D) where
   pub none_found : (old : D) → OnlyNow old → LeavesOnly g.clock g.left_since old old (LeavesFound (g.may_be old) (g.told old))
   none_found old only = started g.clock g.left_since old (LeavesFound (g.may_be old) (g.told old)) (λ c left. found_of_left (g.may_be old) (g.told old) c (only c left))
 
-  pub none_new : (old : D) → OnlyNow old → IsSure old → LeavesOnly g.clock g.left_since old old (FindsNoNewFile (g.disk old))
-  none_new old now only = started g.clock g.left_since old (FindsNoNewFile (g.disk old)) (λ c left. no_new_in (g.disk old) (g.told old) c (cut_of_only (g.may_be old) (g.disk old) (g.told old) c only (now c left)))
+  pub none_files : (old : D) → OnlyNow old → IsSure old → LeavesOnly g.clock g.left_since old old (FindsFiles (g.disk old) (g.told old))
+  none_files old now only =
+      started g.clock g.left_since old (FindsFiles (g.disk old) (g.told old)) (λ c left. files_in (g.disk old) (g.told old) c (cut_of_only (g.may_be old) (g.disk old) (g.told old) c only (now c left)))
 
   -- a sync
   pub synced_found : (name : Name) (old new : D) → OnlyNow old → ((file : File) → g.disk old name ≡ Some file → IsRemnant file file.read)
@@ -136,10 +218,12 @@ module _ {D : Type 0} (g : Ghosts D) where
       one_call old new (LeavesFound (g.may_be old) (g.told old)) (MayLeave (g.may_be new) (g.told new)) only (found_of_left (g.may_be old) (g.told old)) time
       (λ c leaves. subst (λ (t : List ℕ). P t c) same (sync_found name (g.disk old) (g.disk new) (g.may_be old) (g.may_be new) follows remnant outcome (g.told new) c leaves))
 
-  pub synced_new : (old new : D) → OnlyNow old → IsSure old → IsSure new → MakesNoFile (g.disk old) (g.disk new)
-      → Elapses (g.clock old) (g.clock new) (g.left_since old) (g.left_since new) (MayLeave (g.may_be new) (g.told new)) → LeavesOnly g.clock g.left_since old new (FindsNoNewFile (g.disk old))
-  synced_new old new now only only_new none time =
-      certain_call g.clock g.left_since g.disk g.told g.may_be old old new (FindsNoNewFile (g.disk old)) (none_new old now only) time only_new (λ c is name some. none name (no_new_in (g.disk new) (g.told new) c is name some))
+  pub synced_files : (name : Name) (old new : D) → OnlyNow old → IsSure old → IsSure new → ((file : File) → g.disk old name ≡ Some file → IsRemnant file file.read)
+      → (g.disk new ≡ g.disk old) ⊎ (Syncs name (g.disk old) (g.disk new) ⊎ Frays name (g.disk old) (g.disk new)) → g.told new ≡ g.told old
+      → Elapses (g.clock old) (g.clock new) (g.left_since old) (g.left_since new) (MayLeave (g.may_be new) (g.told new)) → LeavesOnly g.clock g.left_since old new (FindsFiles (g.disk old) (g.told old))
+  synced_files name old new now only only_new remnant outcome same time =
+      certain_call g.clock g.left_since g.disk g.told g.may_be old old new (FindsFiles (g.disk old) (g.told old)) (none_files old now only) time only_new
+      (λ c is. subst (λ (t : List ℕ). FindsFiles (g.disk old) t c) same (synced_in name (g.disk old) (g.disk new) remnant outcome (g.told new) c is))
 
   -- one run behind another
   found_then : (old mid : D) → CountsNow mid → g.told mid ≡ g.told old → LeavesOnly g.clock g.left_since old mid (LeavesFound (g.may_be old) (g.told old))
@@ -155,11 +239,18 @@ module _ {D : Type 0} (g : Ghosts D) where
       joins g.clock g.left_since old mid new (LeavesFound (g.may_be old) (g.told old)) first
       (widened g.clock g.left_since mid new (LeavesFound (g.may_be mid) (g.told mid)) (LeavesFound (g.may_be old) (g.told old)) (found_then old mid counts same first) second)
 
-  pub then_new : (old mid new : D) → MakesNoFile (g.disk old) (g.disk mid) → LeavesOnly g.clock g.left_since old mid (FindsNoNewFile (g.disk old))
-      → LeavesOnly g.clock g.left_since mid new (FindsNoNewFile (g.disk mid)) → LeavesOnly g.clock g.left_since old new (FindsNoNewFile (g.disk old))
-  then_new old mid new none first second =
-      let P : Cut → Type 0 = FindsNoNewFile (g.disk old) in
-      joins g.clock g.left_since old mid new P first (widened g.clock g.left_since mid new (FindsNoNewFile (g.disk mid)) P (λ c h name some. none name (h name some)) second)
+  abbrev pub AreRemnants : D → Type 0
+  AreRemnants site = (name : Name) (x : File) → g.disk site name ≡ Some x → IsRemnant x x.read
+
+  -- some were synced by then
+  files_told : (old mid : D) → AreRemnants old → SyncsSome (g.disk old) (g.disk mid) → g.told mid ≡ g.told old → (c : Cut) → FindsFiles (g.disk mid) (g.told mid) c → FindsFiles (g.disk old) (g.told old) c
+  files_told old mid remnants some same c finds = subst (λ (t : List ℕ). FindsFiles (g.disk old) t c) same (files_through (g.disk old) (g.disk mid) remnants some (g.told mid) c finds)
+
+  pub then_files : (old mid new : D) → AreRemnants old → SyncsSome (g.disk old) (g.disk mid) → g.told mid ≡ g.told old → LeavesOnly g.clock g.left_since old mid (FindsFiles (g.disk old) (g.told old))
+      → LeavesOnly g.clock g.left_since mid new (FindsFiles (g.disk mid) (g.told mid)) → LeavesOnly g.clock g.left_since old new (FindsFiles (g.disk old) (g.told old))
+  then_files old mid new remnants some same first second =
+      let P : Cut → Type 0 = FindsFiles (g.disk old) (g.told old) in
+      joins g.clock g.left_since old mid new P first (widened g.clock g.left_since mid new (FindsFiles (g.disk mid) (g.told mid)) P (files_told old mid remnants some same) second)
 
   -- a file is made
   pub made_before : (name : Name) (old new : D) → OnlyNow old → Elapses (g.clock old) (g.clock new) (g.left_since old) (g.left_since new) (MayLeave (MayDuring (Creates name) (g.may_be old)) (g.told old))
@@ -187,77 +278,69 @@ module _ {D : Type 0} (g : Ghosts D) where
       joins g.clock g.left_since old mid new (BeforeBarrier name (g.may_be old) (g.told old)) (all_before name old mid first)
       (widened g.clock g.left_since mid new (BeforeBarrier name (g.may_be mid) (g.told mid)) (BeforeBarrier name (g.may_be old) (g.told old)) (before_then name old mid counts same first) second)
 
-  -- a cut that finds no new file
-  pub not_behind : (m : Map) (old new : D) → LeavesOnly g.clock g.left_since old new (FindsNoNewFile (g.disk old)) → LeavesOnly g.clock g.left_since old new (StandsBehind (g.disk old) m (g.told old))
-  not_behind m old new leaves =
-      widened g.clock g.left_since old new (FindsNoNewFile (g.disk old)) (StandsBehind (g.disk old) m (g.told old)) (λ c finds name none some. absurd (none_some (subst IsSome none (finds name some)))) leaves
+  -- a cut finds the files, or what it leaves stands
+  pub files_or : (stood : Cut → Type 0) (old new : D) → LeavesOnly g.clock g.left_since old new (FindsFiles (g.disk old) (g.told old)) → LeavesOnly g.clock g.left_since old new (FindsOrLeaves (g.disk old) stood (g.told old))
+  files_or stood old new leaves = widened g.clock g.left_since old new (FindsFiles (g.disk old) (g.told old)) (FindsOrLeaves (g.disk old) stood (g.told old)) (λ c finds. inl finds) leaves
 
-  pub all_behind : (m : Map) (old new : D) → LeavesOnly g.clock g.left_since old new (LeavesStanding m (g.told old)) → LeavesOnly g.clock g.left_since old new (StandsBehind (g.disk old) m (g.told old))
-  all_behind m old new leaves = widened g.clock g.left_since old new (LeavesStanding m (g.told old)) (StandsBehind (g.disk old) m (g.told old)) (λ c stands name none some. stands) leaves
+  pub all_or : (stood : Cut → Type 0) (old new : D) → LeavesOnly g.clock g.left_since old new (LeavesStanding stood (g.told old)) → LeavesOnly g.clock g.left_since old new (FindsOrLeaves (g.disk old) stood (g.told old))
+  all_or stood old new leaves = widened g.clock g.left_since old new (LeavesStanding stood (g.told old)) (FindsOrLeaves (g.disk old) stood (g.told old)) (λ c stands. inr stands) leaves
 
-  pub then_behind : (m : Map) (old mid new : D) → g.told mid ≡ g.told old → MakesNoFile (g.disk old) (g.disk mid) → LeavesOnly g.clock g.left_since old mid (FindsNoNewFile (g.disk old))
-      → LeavesOnly g.clock g.left_since mid new (StandsBehind (g.disk mid) m (g.told mid)) → LeavesOnly g.clock g.left_since old new (StandsBehind (g.disk old) m (g.told old))
-  then_behind m old mid new same no_file first second =
-      joins g.clock g.left_since old mid new (StandsBehind (g.disk old) m (g.told old)) (not_behind m old mid first)
-      (widened g.clock g.left_since mid new (StandsBehind (g.disk mid) m (g.told mid)) (StandsBehind (g.disk old) m (g.told old))
-      (λ c stands name none some. subst (λ (t : List ℕ). LeavesStanding m t c) same (stands name (none_still name none) some)) second)
-    where
-      by : (name : Name) → g.disk old name ≡ None → (o : Option File) → g.disk mid name ≡ o → o ≡ None
-      by name none None e = refl
-      by name none (Some x) e = absurd (none_some (subst IsSome none (no_file name (subst IsSome (sym e) refl))))
+  pub then_or : (stood : Cut → Type 0) (old mid new : D) → AreRemnants old → SyncsSome (g.disk old) (g.disk mid) → g.told mid ≡ g.told old → LeavesOnly g.clock g.left_since old mid (FindsFiles (g.disk old) (g.told old))
+      → LeavesOnly g.clock g.left_since mid new (FindsOrLeaves (g.disk mid) stood (g.told mid)) → LeavesOnly g.clock g.left_since old new (FindsOrLeaves (g.disk old) stood (g.told old))
+  then_or stood old mid new remnants some same first second =
+      joins g.clock g.left_since old mid new (FindsOrLeaves (g.disk old) stood (g.told old)) (files_or stood old mid first)
+      (widened g.clock g.left_since mid new (FindsOrLeaves (g.disk mid) stood (g.told mid)) (FindsOrLeaves (g.disk old) stood (g.told old))
+      (λ c. ⊎_elim (λ finds. inl (files_told old mid remnants some same c finds)) (λ stands. inr (subst (λ (t : List ℕ). LeavesStanding stood t c) same stands))) second)
 
-      none_still : (name : Name) → g.disk old name ≡ None → g.disk mid name ≡ None
-      none_still name none = by name none (g.disk mid name) refl
+  -- ---- disks of which a cut leaves what stands
 
-  -- ---- disks that a cut leaves for a map
+  module _ (P : Disk → Type 0) (stood : Cut → Type 0) (cuts : (disk : Disk) (told : List ℕ) (c : Cut) → P disk → IsCut disk told c → stood c) where
+    standing : (d : Disk) (l l_old : List ℕ) (c : Cut) → l ≡ l_old → P d → IsCut d l c → LeavesStanding stood l_old c
+    standing d l l_old c same r cut = record { told_is = cut.told_is ∙ same; left = cuts d l c r cut }
 
-  module _ (P : Disk → Type 0) (m : Map) (cuts : (disk : Disk) (told : List ℕ) (c : Cut) → P disk → IsCut disk told c → Stands c.folder m) where
-    standing : (d : Disk) (l l_old : List ℕ) (c : Cut) → l ≡ l_old → P d → IsCut d l c → LeavesStanding m l_old c
-    standing d l l_old c same r cut = record { told_is = cut.told_is ∙ same; stands = cuts d l c r cut }
-
-    pub rest_start : (old : D) → OnlyNow old → IsSure old → P (g.disk old) → LeavesOnly g.clock g.left_since old old (LeavesStanding m (g.told old))
+    pub rest_start : (old : D) → OnlyNow old → IsSure old → P (g.disk old) → LeavesOnly g.clock g.left_since old old (LeavesStanding stood (g.told old))
     rest_start old now only r =
-        started g.clock g.left_since old (LeavesStanding m (g.told old)) (λ c left. standing (g.disk old) (g.told old) (g.told old) c refl r (cut_of_only (g.may_be old) (g.disk old) (g.told old) c only (now c left)))
+        started g.clock g.left_since old (LeavesStanding stood (g.told old)) (λ c left. standing (g.disk old) (g.told old) (g.told old) c refl r (cut_of_only (g.may_be old) (g.disk old) (g.told old) c only (now c left)))
 
     -- a name call
-    pub rest_call : (call : Disk → Disk → Type 0) (old mid new : D) → LeavesOnly g.clock g.left_since old mid (LeavesStanding m (g.told old)) → g.told mid ≡ g.told old → IsSure mid → P (g.disk mid)
+    pub rest_call : (call : Disk → Disk → Type 0) (old mid new : D) → LeavesOnly g.clock g.left_since old mid (LeavesStanding stood (g.told old)) → g.told mid ≡ g.told old → IsSure mid → P (g.disk mid)
         → ((after : Disk) → call (g.disk mid) after → P after)
-        → Elapses (g.clock mid) (g.clock new) (g.left_since mid) (g.left_since new) (MayLeave (MayDuring call (g.may_be mid)) (g.told mid)) → LeavesOnly g.clock g.left_since old new (LeavesStanding m (g.told old))
+        → Elapses (g.clock mid) (g.clock new) (g.left_since mid) (g.left_since new) (MayLeave (MayDuring call (g.may_be mid)) (g.told mid)) → LeavesOnly g.clock g.left_since old new (LeavesStanding stood (g.told old))
     rest_call call old mid new sofar same only r keeps time =
-        name_call g.clock g.left_since g.disk g.told g.may_be call old mid new (LeavesStanding m (g.told old)) sofar time only (λ c cut. standing (g.disk mid) (g.told mid) (g.told old) c same r cut)
+        name_call g.clock g.left_since g.disk g.told g.may_be call old mid new (LeavesStanding stood (g.told old)) sofar time only (λ c cut. standing (g.disk mid) (g.told mid) (g.told old) c same r cut)
         (λ after c did cut. standing after (g.told mid) (g.told old) c same (keeps after did) cut)
 
     -- an append, or a sync
-    pub rest_goes_on : (old mid new : D) → LeavesOnly g.clock g.left_since old mid (LeavesStanding m (g.told old)) → g.told new ≡ g.told old → IsSure new → P (g.disk new)
-        → Elapses (g.clock mid) (g.clock new) (g.left_since mid) (g.left_since new) (MayLeave (g.may_be new) (g.told new)) → LeavesOnly g.clock g.left_since old new (LeavesStanding m (g.told old))
+    pub rest_goes_on : (old mid new : D) → LeavesOnly g.clock g.left_since old mid (LeavesStanding stood (g.told old)) → g.told new ≡ g.told old → IsSure new → P (g.disk new)
+        → Elapses (g.clock mid) (g.clock new) (g.left_since mid) (g.left_since new) (MayLeave (g.may_be new) (g.told new)) → LeavesOnly g.clock g.left_since old new (LeavesStanding stood (g.told old))
     rest_goes_on old mid new sofar same only r time =
-        certain_call g.clock g.left_since g.disk g.told g.may_be old mid new (LeavesStanding m (g.told old)) sofar time only (λ c cut. standing (g.disk new) (g.told new) (g.told old) c same r cut)
+        certain_call g.clock g.left_since g.disk g.told g.may_be old mid new (LeavesStanding stood (g.told old)) sofar time only (λ c cut. standing (g.disk new) (g.told new) (g.told old) c same r cut)
 
-  pub then_standing : (m : Map) (old mid new : D) → g.told mid ≡ g.told old → LeavesOnly g.clock g.left_since old mid (LeavesStanding m (g.told old)) → LeavesOnly g.clock g.left_since mid new (LeavesStanding m (g.told mid))
-      → LeavesOnly g.clock g.left_since old new (LeavesStanding m (g.told old))
-  then_standing m old mid new same first second =
-      joins g.clock g.left_since old mid new (LeavesStanding m (g.told old)) first (subst (λ (l : List ℕ). LeavesOnly g.clock g.left_since mid new (LeavesStanding m l)) same second)
+  pub then_standing : (stood : Cut → Type 0) (old mid new : D) → g.told mid ≡ g.told old → LeavesOnly g.clock g.left_since old mid (LeavesStanding stood (g.told old)) → LeavesOnly g.clock g.left_since mid new (LeavesStanding stood (g.told mid))
+      → LeavesOnly g.clock g.left_since old new (LeavesStanding stood (g.told old))
+  then_standing stood old mid new same first second =
+      joins g.clock g.left_since old mid new (LeavesStanding stood (g.told old)) first (subst (λ (l : List ℕ). LeavesOnly g.clock g.left_since mid new (LeavesStanding stood l)) same second)
 
 -- ---- either side of the barrier
 
 module _ {D : Type 0} (g : Ghosts D) where
-  pub side_before : (name : Name) (m : Map) (old new : D) → LeavesOnly g.clock g.left_since old new (BeforeBarrier name (g.may_be old) (g.told old)) → LeavesOnly g.clock g.left_since old new (IsOnEitherSide name (g.may_be old) m (g.told old))
-  side_before name m old new leaves = widened g.clock g.left_since old new (BeforeBarrier name (g.may_be old) (g.told old)) (IsOnEitherSide name (g.may_be old) m (g.told old)) (λ c b. inl b) leaves
+  pub side_before : (name : Name) (stood : Cut → Type 0) (old new : D) → LeavesOnly g.clock g.left_since old new (BeforeBarrier name (g.may_be old) (g.told old)) → LeavesOnly g.clock g.left_since old new (IsOnEitherSide name (g.may_be old) stood (g.told old))
+  side_before name stood old new leaves = widened g.clock g.left_since old new (BeforeBarrier name (g.may_be old) (g.told old)) (IsOnEitherSide name (g.may_be old) stood (g.told old)) (λ c b. inl b) leaves
 
-  pub side_found : (name : Name) (m : Map) (old new : D) → LeavesOnly g.clock g.left_since old new (LeavesFound (g.may_be old) (g.told old)) → LeavesOnly g.clock g.left_since old new (IsOnEitherSide name (g.may_be old) m (g.told old))
-  side_found name m old new leaves = side_before name m old new (all_before g name old new leaves)
+  pub side_found : (name : Name) (stood : Cut → Type 0) (old new : D) → LeavesOnly g.clock g.left_since old new (LeavesFound (g.may_be old) (g.told old)) → LeavesOnly g.clock g.left_since old new (IsOnEitherSide name (g.may_be old) stood (g.told old))
+  side_found name stood old new leaves = side_before name stood old new (all_before g name old new leaves)
 
   -- the first name call is answered, and cuts stand for the map
-  pub side_then : (name : Name) (m : Map) (old mid new : D) → g.told mid ≡ g.told old → LeavesOnly g.clock g.left_since old mid (IsOnEitherSide name (g.may_be old) m (g.told old)) → LeavesOnly g.clock g.left_since mid new (LeavesStanding m (g.told mid))
-      → LeavesOnly g.clock g.left_since old new (IsOnEitherSide name (g.may_be old) m (g.told old))
-  side_then name m old mid new same first second =
-      joins g.clock g.left_since old mid new (IsOnEitherSide name (g.may_be old) m (g.told old)) first
-      (widened g.clock g.left_since mid new (LeavesStanding m (g.told mid)) (IsOnEitherSide name (g.may_be old) m (g.told old)) (λ c stands. inr (subst (λ (t : List ℕ). LeavesStanding m t c) same stands)) second)
+  pub side_then : (name : Name) (stood : Cut → Type 0) (old mid new : D) → g.told mid ≡ g.told old → LeavesOnly g.clock g.left_since old mid (IsOnEitherSide name (g.may_be old) stood (g.told old)) → LeavesOnly g.clock g.left_since mid new (LeavesStanding stood (g.told mid))
+      → LeavesOnly g.clock g.left_since old new (IsOnEitherSide name (g.may_be old) stood (g.told old))
+  side_then name stood old mid new same first second =
+      joins g.clock g.left_since old mid new (IsOnEitherSide name (g.may_be old) stood (g.told old)) first
+      (widened g.clock g.left_since mid new (LeavesStanding stood (g.told mid)) (IsOnEitherSide name (g.may_be old) stood (g.told old)) (λ c stands. inr (subst (λ (t : List ℕ). LeavesStanding stood t c) same stands)) second)
 
   -- behind the syncs
-  pub found_side : (name : Name) (m : Map) (old mid new : D) → CountsNow g mid → g.told mid ≡ g.told old → LeavesOnly g.clock g.left_since old mid (LeavesFound (g.may_be old) (g.told old))
-      → LeavesOnly g.clock g.left_since mid new (IsOnEitherSide name (g.may_be mid) m (g.told mid)) → LeavesOnly g.clock g.left_since old new (IsOnEitherSide name (g.may_be old) m (g.told old))
-  found_side name m old mid new counts same first second =
-      joins g.clock g.left_since old mid new (IsOnEitherSide name (g.may_be old) m (g.told old)) (side_found name m old mid first)
-      (widened g.clock g.left_since mid new (IsOnEitherSide name (g.may_be mid) m (g.told mid)) (IsOnEitherSide name (g.may_be old) m (g.told old))
-      (λ c side. ⊎_elim (λ b. inl (before_then g name old mid counts same first c b)) (λ stands. inr (subst (λ (t : List ℕ). LeavesStanding m t c) same stands)) side) second)
+  pub found_side : (name : Name) (stood : Cut → Type 0) (old mid new : D) → CountsNow g mid → g.told mid ≡ g.told old → LeavesOnly g.clock g.left_since old mid (LeavesFound (g.may_be old) (g.told old))
+      → LeavesOnly g.clock g.left_since mid new (IsOnEitherSide name (g.may_be mid) stood (g.told mid)) → LeavesOnly g.clock g.left_since old new (IsOnEitherSide name (g.may_be old) stood (g.told old))
+  found_side name stood old mid new counts same first second =
+      joins g.clock g.left_since old mid new (IsOnEitherSide name (g.may_be old) stood (g.told old)) (side_found name stood old mid first)
+      (widened g.clock g.left_since mid new (IsOnEitherSide name (g.may_be mid) stood (g.told mid)) (IsOnEitherSide name (g.may_be old) stood (g.told old))
+      (λ c side. ⊎_elim (λ b. inl (before_then g name old mid counts same first c b)) (λ stands. inr (subst (λ (t : List ℕ). LeavesStanding stood t c) same stands)) side) second)

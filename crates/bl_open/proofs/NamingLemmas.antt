@@ -11,9 +11,11 @@ use Rattle.bl_records.specs.Writing.{MakesSynced}
 use Rattle.bl_folder.specs.Settled.{IsSynced, IsSyncedFile}
 use Rattle.bl_entry.proofs.ItemLemmas.{some_is}
 use Rattle.bl_open.specs.Steady.{Maps, Steady, accepted}
-use Rattle.bl_open.specs.SteadyCalls.{HasText, IsReady, Rests}
-use Rattle.bl_open.specs.SteadyCuts.{LeavesStanding}
-use Rattle.bl_open.specs.SteadyLaws.{CutsOfResting, RenamesMakeSteady, SyncedAreLeft}
+use Rattle.bl_open.specs.SteadyCalls.{HasText, IsReady}
+use Rattle.bl_open.specs.SteadyCuts.{IsLeftFor, LeavesStanding}
+use Rattle.bl_open.specs.SteadyLaws.{RenamesMakeSteady, SyncedAreLeft}
+use Rattle.bl_open.specs.OpeningLaws.{CutsOfRestsAs}
+use Rattle.bl_entry.specs.Revisions.{Map}
 use Rattle.bl_open.specs.Installations.{HasCurrent, IsInstalled}
 use Rattle.bl_site.specs.Disk.{folder_of}
 use Rattle.std.specs.List.{AllByRecursion}
@@ -25,7 +27,7 @@ use Rattle.bl_manifest.specs.Held.{Edits, HoldsEdits, ReadsEdits}
 use Rattle.bl_manifest.specs.Laws.{ManifestsAreRead}
 use Rattle.bl_out.specs.Quiet.{TouchesOnly}
 use Rattle.bl_out.proofs.QuietLemmas.{OthersStay, touches_more}
-use Rattle.bl_open.specs.Found.{Found, IsSpareFor, IsSpareName}
+use Rattle.bl_open.specs.Found.{Found, IsLeftAs, IsSpareFor, IsSpareName, RestsAs}
 use Rattle.bl_open.proofs.CutLemmas.{edits_synced, live_from}
 use Rattle.bl_open.proofs.FrameLemmas.{apart, same_edits, same_held}
 
@@ -53,22 +55,27 @@ has_current names number is text old mid new text_is made did =
 pub renames_so : (temp : ℕ) (from to : Name) (old new : Disk) → from ≡ name_of (Temp temp) → to ≡ name_of Current → Renames from to old new → Renames (name_of (Temp temp)) (name_of Current) old new
 renames_so temp from to old new from_is to_is did = subst (λ (n : Name). Renames n (name_of Current) old new) from_is (subst (λ (n : Name). Renames from n old new) to_is did)
 
+-- what stands behind the rename
+left_as : (found : Found) (m : Map) (c : Cut) → IsLeftFor m c → IsLeftAs found m c
+left_as None m c left = inr left
+left_as (Some found) m c left = left
+
 -- a cut meanwhile
-module _ {D : Type 0} (g : Ghosts D) (cuts : CutsOfResting) (renames : RenamesMakeSteady) (synced : SyncedAreLeft) where
-  pub renamed : (maps : Maps) (s : Steady) (temp : ℕ) (from to : Name) (old new : D) → IsNumber temp → from ≡ name_of (Temp temp) → to ≡ name_of Current → Rests (maps (accepted s)) (g.disk old) → IsReady maps s (g.disk old)
+module _ {D : Type 0} (g : Ghosts D) (cuts : CutsOfRestsAs) (renames : RenamesMakeSteady) (synced : SyncedAreLeft) where
+  pub renamed : (maps : Maps) (s : Steady) (found : Found) (temp : ℕ) (from to : Name) (old new : D) → IsNumber temp → from ≡ name_of (Temp temp) → to ≡ name_of Current → RestsAs found (maps (accepted s)) (g.disk old) → IsReady maps s (g.disk old)
       → HasText temp s.manifest.number (g.disk old) → s.synced ≡ length s.own
       → ((c : Cut) → g.left_since old (g.clock old) c → MayLeave (g.may_be old) (g.told old) c) → ((other : Disk) → g.may_be old other → other ≡ g.disk old)
       → Elapses (g.clock old) (g.clock new) (g.left_since old) (g.left_since new) (MayLeave (MayDuring (Renames from to) (g.may_be old)) (g.told old))
-      → LeavesOnly g.clock g.left_since old new (LeavesStanding (maps (accepted s)) (g.told old))
-  renamed maps s temp from to old new is from_is to_is r ready text all now only time =
+      → LeavesOnly g.clock g.left_since old new (LeavesStanding (IsLeftAs found (maps (accepted s))) (g.told old))
+  renamed maps s found temp from to old new is from_is to_is r ready text all now only time =
       let m = maps (accepted s) in
-      let P : Cut → Type 0 = LeavesStanding m (g.told old) in
-      let before : (c : Cut) → IsCut (g.disk old) (g.told old) c → P c = λ c cut. record { told_is = cut.told_is; stands = cuts m (g.disk old) (g.told old) c r cut } in
+      let P : Cut → Type 0 = LeavesStanding (IsLeftAs found m) (g.told old) in
+      let before : (c : Cut) → IsCut (g.disk old) (g.told old) c → P c = λ c cut. record { told_is = cut.told_is; left = cuts found m (g.disk old) (g.told old) c r cut } in
       name_call g.clock g.left_since g.disk g.told g.may_be (Renames from to) old old new P
       (started g.clock g.left_since old P (λ c left. before c (cut_of_only (g.may_be old) (g.disk old) (g.told old) c only (now c left)))) time only before
       (λ after c did cut.
       let done : Renames (name_of (Temp temp)) (name_of Current) (g.disk old) after = renames_so temp from to (g.disk old) after from_is to_is did in
-      record { told_is = cut.told_is; stands = inr (synced maps s after (g.told old) c (renames maps s temp (g.disk old) after ready is text done) all cut).stands })
+      record { told_is = cut.told_is; left = left_as found m c (synced maps s after (g.told old) c (renames maps s temp (g.disk old) after ready is text done) all cut) })
 
 -- ---- the names that are touched
 

@@ -1,11 +1,11 @@
 -- An opening as a whole.
-use Rattle.std.proofs.Common.{◌≡◌, ◌⊎◌, ◌+◌, ◌<◌, ◌≤◌, nat_lt, inl, inr, ℕ, zero, suc, Bool, true, false, List, [], ◌∷◌, length, get_or, Option, None, Some, IsSome, Result, Ok, Err, refl, sym, ◌∙◌, subst, arith}
+use Rattle.std.proofs.Common.{◌≡◌, ◌⊎◌, ◌+◌, ◌<◌, ◌≤◌, nat_lt, inl, inr, ⊎_elim, ℕ, zero, suc, Bool, true, false, List, [], ◌∷◌, length, get_or, Option, None, Some, IsSome, Result, Ok, Err, refl, sym, ◌∙◌, subst, arith}
 use Rattle.std.specs.Prelude.{◌^◌, IfErr, IfOk}
 use Rattle.std.proofs.lemmas.Bool.{ltb-false, ltb-true}
 use Rattle.bl_site.specs.Calls.{LeavesOnly}
 use Rattle.std.specs.FinMap.{empty}
 use Rattle.std.specs.Option.{option_map}
-use Rattle.bl_site.specs.Disk.{Disk, File, Folder, Name, folder_of}
+use Rattle.bl_site.specs.Disk.{Cut, Disk, File, Folder, Name, folder_of}
 use Rattle.bl_site.specs.declared.site.Site.{Ghosts}
 use Rattle.bl_entry.specs.Revisions.{Map}
 use Rattle.bl_build.specs.Listing.{Listing, nothing}
@@ -14,10 +14,12 @@ use Rattle.bl_folder.specs.Numbers.{IsFirstNumber}
 use Rattle.bl_folder.specs.Live.{IsFresh}
 use Rattle.bl_folder.specs.Stands.{Stands}
 use Rattle.bl_records.specs.Causes.{IsCause}
-use Rattle.bl_open.proofs.MomentLemmas.{CountsNow, OnlyNow, none_found, not_behind, then_behind, then_found}
+use Rattle.bl_open.proofs.MomentLemmas.{AreRemnants, CountsNow, OnlyNow, files_or, none_found, then_found, then_or}
 use Rattle.bl_open.proofs.ReadLemmas.{nothing_side, nothing_then_side}
 use Rattle.bl_wal.specs.LogFile.{log_name}
-use Rattle.bl_open.specs.Barrier.{AreTheLogs, IsNewFile, LeavesFound, MakesNothing}
+use Rattle.bl_open.specs.Barrier.{AreTheLogs, FindsOrLeaves, IsNewFile, IsOnEitherSide, LeavesFound, MakesNothing, SyncsSome}
+use Rattle.bl_open.specs.SteadyCuts.{LeavesStanding}
+use Rattle.bl_site.proofs.Moments.{widened}
 use Rattle.bl_open.specs.Beginning.{first_file, first_made}
 use Rattle.bl_open.specs.Causes.{IsWriting}
 use Rattle.bl_open.specs.Checks.{AllPass}
@@ -36,21 +38,42 @@ each_and (Ok x) P Q p q = (p, q)
 each_and (Err e) P Q p q = tt
 
 module _ {D : Type 0} (g : Ghosts D) (shown : g.shows) (only_now : (site : D) → OnlyNow g site) (counts_now : (site : D) → CountsNow g site)
-    (only : (site : D) (other : Disk) → g.certain site → g.may_be site other → other ≡ g.disk site) where
+    (only : (site : D) (other : Disk) → g.certain site → g.may_be site other → other ≡ g.disk site) (remnants : (site : D) → AreRemnants g site) where
   -- no name call was made
-  pub nothing_cuts : (m : Map) (old new : D) → MakesNothing g old new → CutsAtBarrier g m old new
-  nothing_cuts m old new n = record { first = []; is_new = inr n.found; sides = nothing_side g shown only_now counts_now only [] m old new n; behind = λ sure. not_behind g m old new (n.no_new sure) }
+  pub nothing_cuts : (stood : Cut → Type 0) (old new : D) → MakesNothing g old new → CutsAtBarrier g stood old new
+  nothing_cuts stood old new n = record {
+    first = [];
+    is_new = inr n.found;
+    sides = nothing_side g shown only_now counts_now only remnants [] stood old new n;
+    finds = λ sure. files_or g stood old new (n.finds sure);
+  }
 
-  pub then_cuts : (m : Map) (old mid new : D) → MakesNothing g old mid → folder_of (g.disk mid) ≡ folder_of (g.disk old) → CutsAtBarrier g m mid new → CutsAtBarrier g m old new
-  then_cuts m old mid new n same c = record {
+  pub then_cuts : (stood : Cut → Type 0) (old mid new : D) → SyncsSome (g.disk old) (g.disk mid) → MakesNothing g old mid → folder_of (g.disk mid) ≡ folder_of (g.disk old) → CutsAtBarrier g stood mid new → CutsAtBarrier g stood old new
+  then_cuts stood old mid new some n same c = record {
     first = c.first;
     is_new = elim c.is_new [
       | inl file ↦ inl (subst (λ (f : Folder). IsNewFile f c.first) same file)
       | inr found ↦ inr (then_found g old mid new (counts_now mid) n.told n.found found)
     ];
-    sides = nothing_then_side g shown only_now counts_now only c.first m old mid new n c.sides;
-    behind = λ sure. then_behind g m old mid new n.told n.no_file (n.no_new sure) (c.behind (n.certain sure));
+    sides = nothing_then_side g shown only_now counts_now only remnants c.first stood old mid new n c.sides;
+    finds = λ sure. then_or g stood old mid new (remnants old) some n.told (n.finds sure) (c.finds (n.certain sure));
   }
+
+-- what stands so stands in another way
+pub cuts_so : {D : Type 0} (g : Ghosts D) (one two : Cut → Type 0) (old new : D) → ((c : Cut) → one c → two c) → CutsAtBarrier g one old new → CutsAtBarrier g two old new
+cuts_so g one two old new to b = record {
+  first = b.first;
+  is_new = b.is_new;
+  sides =
+      widened g.clock g.left_since old new (IsOnEitherSide b.first (g.may_be old) one (g.told old)) (IsOnEitherSide b.first (g.may_be old) two (g.told old))
+      (λ c. ⊎_elim (λ before. inl before) (λ s. inr (stands_so c s))) b.sides;
+  finds = λ sure.
+      widened g.clock g.left_since old new (FindsOrLeaves (g.disk old) one (g.told old)) (FindsOrLeaves (g.disk old) two (g.told old))
+      (λ c. ⊎_elim (λ finds. inl finds) (λ s. inr (stands_so c s))) (b.finds sure);
+}
+  where
+    stands_so : (c : Cut) → LeavesStanding one (g.told old) c → LeavesStanding two (g.told old) c
+    stands_so c s = record { told_is = s.told_is; left = to c s.left }
 
 -- the first file has a number above those of all files
 first_is_new : (folder : Folder) (version : Listing) (next first : ℕ) (memory : List Entry) → IsFirstNumber folder version next first → first_made memory first < 10 ^ 15 → IsNewFile folder (first_file memory first)

@@ -21,10 +21,9 @@ use Rattle.bl_folder.specs.Laws.{FailedSyncsKeepSettled}
 use Rattle.bl_entry.proofs.ItemLemmas.{some_is}
 use Rattle.bl_open.specs.SteadyCalls.{IsPastBarrier, KeepsAllBut}
 use Rattle.bl_open.specs.SteadyLaws.{SyncsKeepSettled}
-use Rattle.bl_open.specs.Barrier.{AreTheLogs, MakesNoFile}
+use Rattle.bl_open.specs.Barrier.{AreTheLogs}
 use Rattle.bl_open.specs.Found.{Found, MayBeMade, RestsAs}
 use Rattle.bl_open.specs.OpeningLaws.{NewFilesStay}
-use Rattle.bl_open.proofs.SyncLemmas.{same_name}
 
 -- ---- outcomes of calls
 
@@ -66,17 +65,6 @@ manifest_others name bytes old new (Err e) made (inr m) = m.puts.others
 
 some_of : {A : Type 0} (o : Option A) (x : A) → o ≡ Some x → IsSome o
 some_of o x e = subst IsSome (sym e) refl
-
-pub sync_no_file : (name : Name) (old new : Disk) → (new ≡ old) ⊎ (Syncs name old new ⊎ Frays name old new) → MakesNoFile old new
-sync_no_file name old new (inl same) other some = subst (λ (d : Disk). IsSome (d other)) same some
-sync_no_file name old new (inr (inl s)) other some = elim (same_name other name) [
-  | inl same ↦ some_of (old other) s.file (ap old same ∙ s.was)
-  | inr ne ↦ subst IsSome (s.puts.others other ne) some
-]
-sync_no_file name old new (inr (inr f)) other some = elim (same_name other name) [
-  | inl same ↦ some_of (old other) f.file (ap old same ∙ f.was)
-  | inr ne ↦ subst IsSome (f.puts.others other ne) some
-]
 
 pub sync_settled : SyncsKeepSettled → FailedSyncsKeepSettled → (f : FileName) (old new : Disk) → HasNumber f → ((other : Name) (x : File) → old other ≡ Some x → IsRemnant x x.read)
     → (new ≡ old) ⊎ (Syncs (name_of f) old new ⊎ Frays (name_of f) old new) → IsSettled old → NoChanceMatch (folder_of new) (written_of new) → IsSettled new

@@ -6,7 +6,7 @@ use Rattle.bl_entry.proofs.ItemLemmas.{all_of_map, some_is}
 use Rattle.bl_open.specs.SteadyCalls.{IsLoose}
 use Rattle.std.specs.Prelude.{IsNone, is_some, unwrap_or}
 use Rattle.std.specs.Option.{option_map}
-use Rattle.bl_site.specs.Disk.{Folder, Disk, File, Cut, IsCut, IsLeft, IsRemnant, folder_of}
+use Rattle.bl_site.specs.Disk.{Folder, Disk, File, Name, Cut, IsCut, IsLeft, IsRemnant, folder_of}
 use Rattle.bl_names.specs.declared.name.FileName.{FileName}
 use Rattle.bl_names.specs.declared.name.FileName.TheVariants.{Current, Manifest, Log, Table, Blob, Temp}
 use Rattle.bl_names.specs.Names.{IsNumber, NamesOne, current_text, name_of}
@@ -19,10 +19,15 @@ use Rattle.bl_out.specs.Files.{file}
 use Rattle.bl_folder.specs.Files.{log_bytes}
 use Rattle.bl_folder.specs.Needed.{IsNeeded, KeepsNeeded}
 use Rattle.bl_folder.specs.Settled.{IsSynced, IsSyncedFile, NamesSynced, NeededAreSynced}
-use Rattle.bl_folder.specs.Live.{IsFresh, MayBeFresh}
-use Rattle.bl_folder.specs.Laws.{CutsOfSynced, Frame, FreshStays, LiveIsVersion}
+use Rattle.bl_folder.specs.Live.{IsFresh, IsLive, MayBeFresh}
+use Rattle.bl_folder.specs.Laws.{CutsOfSynced, Frame, FreshStays, LiveIsOne, LiveIsVersion}
+use Rattle.bl_folder.specs.Quiet.{NoneIsNeeded}
+use Rattle.bl_folder.specs.Stands.{Stands}
+use Rattle.bl_out.specs.Quiet.{IsCutBut}
+use Rattle.bl_entry.specs.Revisions.{Map}
 use Rattle.bl_open.specs.SteadyLaws.{CutsOfRest, CutsOfResting, NewLogsKeepRest, QuietKeepsRest, ReadsAreCuts, SettledRest, SparesKeepRest, TempsKeepRest}
-use Rattle.bl_open.proofs.CutLemmas.{reads, stays}
+use Rattle.bl_open.specs.SteadyCuts.{AreLeftWhole, IsLeftFor}
+use Rattle.bl_open.proofs.CutLemmas.{left_written, reads, stays}
 use Rattle.bl_open.proofs.FrameLemmas.{by_case, contains_all, elsewhere, needed_number, synced_same}
 
 absent_left : (o : Option File) (p : Option (List ℕ)) → IsLeft o p → IsNone (option_map (λ x. x.read) o) → p ≡ None
@@ -37,8 +42,29 @@ log_none folder n e = ap (λ o. cond (is_number n) (unwrap_or o []) []) e ∙ ei
     either true = refl
     either false = refl
 
-pub cuts_of_rest : CutsOfSynced → CutsOfRest
-cuts_of_rest cuts manifest live m disk told c t cut = (cuts disk told c manifest live m t.is_live t.stands t.synced cut).1
+-- a live part that stands for the map, its needed logs left whole
+pub left_for : LiveIsOne → (manifest : ℕ) (live : Restored) (m : Map) (c : Cut) → IsLive c.folder manifest live → Stands c.folder m → AreLeftWhole live.standing.log_number c → IsLeftFor m c
+left_for one manifest live m c is (inl fresh) whole = absurd (let e : Some (current_text manifest) ≡ None = sym is.current ∙ fresh.0.current in cc e)
+left_for one manifest live m c is (inr stands) whole =
+    let same : live ≡ stands.holding.live = (one c.folder manifest stands.manifest live stands.holding.live is stands.holds.live).1 in
+    record { stands = stands; whole = subst (λ (l : Restored). AreLeftWhole l.standing.log_number c) same whole }
+
+-- where all needed files are synced, needed logs are left whole,
+whole_rest : (disk : Disk) (told : List ℕ) (c : Cut) (manifest : ℕ) (live : Restored) → NeededAreSynced disk manifest live → IsCut disk told c → AreLeftWhole live.standing.log_number c
+whole_rest disk told c manifest live synced cut lower upper is le less has bytes =
+    stays disk told c cut (Log lower) (synced (Log lower) (is, le)) ∙ sym (cut.written_is (log_name lower))
+
+-- also while other files change
+pub whole_but : (names : List Name) (disk : Disk) (told : List ℕ) (c : Cut) (manifest : ℕ) (live : Restored) → NoneIsNeeded names manifest live → NeededAreSynced disk manifest live → IsCutBut names disk told c
+    → AreLeftWhole live.standing.log_number c
+whole_but names disk told c manifest live away synced cut lower upper is le less has bytes =
+    let none = away (Log lower) (is, le) in
+    left_written (disk (log_name lower)) (c.folder (log_name lower)) (cut.image (log_name lower) none) (synced (Log lower) (is, le)) ∙ sym (cut.written_is (log_name lower) none)
+
+pub cuts_of_rest : LiveIsOne → CutsOfSynced → CutsOfRest
+cuts_of_rest one cuts manifest live m disk told c t cut =
+    let left = cuts disk told c manifest live m t.is_live t.stands t.synced cut in
+    left_for one manifest live m c left.0 left.1 (whole_rest disk told c manifest live t.synced cut)
 
 abbrev read_in : Option File → Option (List ℕ)
 read_in o = option_map (λ (x : File). x.read) o
@@ -104,7 +130,7 @@ module _ (disk : Disk) (told : List ℕ) (c : Cut) (cut : IsCut disk told c) whe
 
 pub cuts_of_resting : CutsOfRest → CutsOfResting
 cuts_of_resting cuts m disk told c (inl fresh) cut = inl (fresh_left disk told c cut fresh.0 fresh.1, fresh.2)
-cuts_of_resting cuts m disk told c (inr (manifest, live, rest)) cut = cuts manifest live m disk told c rest cut
+cuts_of_resting cuts m disk told c (inr (manifest, live, rest)) cut = inr (cuts manifest live m disk told c rest cut).stands
 
 loose_is_fresh : (f : FileName) (o : Option (List ℕ)) → IsLoose f → MayBeFresh f o
 loose_is_fresh Current o l = absurd l

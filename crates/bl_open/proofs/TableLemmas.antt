@@ -22,7 +22,7 @@ use Rattle.bl_open.proofs.DrawnLemmas.{none_drawn}
 use Rattle.bl_open.specs.Barrier.{BeforeBarrier, IsOnEitherSide}
 use Rattle.bl_open.specs.Flushing.{CutsBesideRest, IsOther, KeepsOthers, OthersKeepRest, drawn}
 use Rattle.bl_open.specs.SteadyCalls.{IsAtRest}
-use Rattle.bl_open.specs.SteadyCuts.{LeavesStanding}
+use Rattle.bl_open.specs.SteadyCuts.{IsLeftFor, LeavesStanding}
 
 -- nothing is flushed of an empty memory
 pub no_flush : (options : Values) (next : ℕ) (disk : Disk) → Flushes options next next [] [] disk no_field
@@ -65,28 +65,28 @@ module _ {D : Type 0} (g : Ghosts D) (others : OthersKeepRest) (beside : CutsBes
   pub rest_on : IsAtRest manifest live m (g.disk mid)
   rest_on = others from manifest live m (g.disk old) (g.disk mid) below (λ name other. touches.others shown name (others_of_first from name less some other)) rest
 
-  pub first_cuts : g.certain old → LeavesOnly g.clock g.left_since old mid (LeavesStanding m (g.told old))
+  pub first_cuts : g.certain old → LeavesOnly g.clock g.left_since old mid (LeavesStanding (IsLeftFor m) (g.told old))
   first_cuts sure =
-      widened g.clock g.left_since old mid (IsCutBut (name_of (Table from) ∷ []) (g.disk old) (g.told old)) (LeavesStanding m (g.told old))
+      widened g.clock g.left_since old mid (IsCutBut (name_of (Table from) ∷ []) (g.disk old) (g.told old)) (LeavesStanding (IsLeftFor m) (g.told old))
       (λ c cut. beside from (from + 1) manifest live m (g.disk old) (g.told old) c some (omega (arith, less)) below rest (cut_of_first from (g.disk old) (g.told old) c cut)) (touches.cuts shown sure)
 
   -- and then the files of the flush
   module _ (new : D) (next : ℕ) (most : next ≤ 10 ^ 15) (same : g.told mid ≡ g.told old) (sure_then : g.certain mid) (files : TouchesOnly g (drawn from next) mid new) where
-    later_cuts : LeavesOnly g.clock g.left_since mid new (LeavesStanding m (g.told old))
+    later_cuts : LeavesOnly g.clock g.left_since mid new (LeavesStanding (IsLeftFor m) (g.told old))
     later_cuts =
-        widened g.clock g.left_since mid new (IsCutBut (drawn from next) (g.disk mid) (g.told mid)) (LeavesStanding m (g.told old))
-        (λ c cut. subst (λ (t : List ℕ). LeavesStanding m t c) same (beside from next manifest live m (g.disk mid) (g.told mid) c some most below rest_on cut)) (files.cuts shown sure_then)
+        widened g.clock g.left_since mid new (IsCutBut (drawn from next) (g.disk mid) (g.told mid)) (LeavesStanding (IsLeftFor m) (g.told old))
+        (λ c cut. subst (λ (t : List ℕ). LeavesStanding (IsLeftFor m) t c) same (beside from next manifest live m (g.disk mid) (g.told mid) c some most below rest_on cut)) (files.cuts shown sure_then)
 
-    pub all_cuts : g.certain old → LeavesOnly g.clock g.left_since old new (LeavesStanding m (g.told old))
-    all_cuts sure = joins g.clock g.left_since old mid new (LeavesStanding m (g.told old)) (first_cuts sure) later_cuts
+    pub all_cuts : g.certain old → LeavesOnly g.clock g.left_since old new (LeavesStanding (IsLeftFor m) (g.told old))
+    all_cuts sure = joins g.clock g.left_since old mid new (LeavesStanding (IsLeftFor m) (g.told old)) (first_cuts sure) later_cuts
 
     pub all_sides : LeavesOnly g.clock g.left_since old mid (BeforeBarrier (name_of (Table from)) (g.may_be old) (g.told old))
-        → LeavesOnly g.clock g.left_since old new (IsOnEitherSide (name_of (Table from)) (g.may_be old) m (g.told old))
+        → LeavesOnly g.clock g.left_since old new (IsOnEitherSide (name_of (Table from)) (g.may_be old) (IsLeftFor m) (g.told old))
     all_sides before =
-        let P : Cut → Type 0 = IsOnEitherSide (name_of (Table from)) (g.may_be old) m (g.told old) in
+        let P : Cut → Type 0 = IsOnEitherSide (name_of (Table from)) (g.may_be old) (IsLeftFor m) (g.told old) in
         joins g.clock g.left_since old mid new P
         (widened g.clock g.left_since old mid (BeforeBarrier (name_of (Table from)) (g.may_be old) (g.told old)) P (λ c b. inl b) before)
-        (widened g.clock g.left_since mid new (LeavesStanding m (g.told old)) P (λ c s. inr s) later_cuts)
+        (widened g.clock g.left_since mid new (LeavesStanding (IsLeftFor m) (g.told old)) P (λ c s. inr s) later_cuts)
 
 -- what is not drawn stays, while the first table is made and then the files
 pub others_stay : {D : Type 0} (g : Ghosts D) (from next : ℕ) (old mid new : D) → 1 ≤ from → from < 10 ^ 15 → next ≤ 10 ^ 15 → TouchesOnly g (name_of (Table from) ∷ []) old mid → TouchesOnly g (drawn from next) mid new

@@ -13,7 +13,7 @@ use Rattle.bl_out.specs.Quiet.{IsCutBut, TouchesOnly}
 use Rattle.bl_out.proofs.QuietLemmas.{IsNow, IsOnly, OthersStay, append_stays, create_outcome, create_stays, sync_stays, touches_named, touches_once}
 use Rattle.bl_open.specs.SteadyCalls.{KeepsAllBut}
 use Rattle.bl_open.specs.SteadyCuts.{LeavesStanding}
-use Rattle.bl_open.specs.Found.{Found, IsSpareName, RestsAs}
+use Rattle.bl_open.specs.Found.{Found, IsLeftAs, IsSpareName, RestsAs}
 use Rattle.bl_open.specs.OpeningLaws.{SparesCut}
 use Rattle.bl_open.proofs.OutcomeLemmas.{renamed_either}
 
@@ -60,9 +60,9 @@ module _ {S : Type 0} (g : Ghosts S) (name : Name) (old new : S) (result : Resul
       (λ shown. rename_stays name to (g.disk old) (g.disk new) (renamed_either name to (g.disk old) (g.disk new) result (done shown) (failed shown) (λ e. (memory shown e).same) not_tell))
       (λ from after did. rename_stays name to from after (inr did)) time only_old now
 
--- while spare files are touched, a cut leaves the map that was found
+-- while spare files are touched, a cut leaves what was found for its map
 pub spares_stand : {S : Type 0} (g : Ghosts S) (law : SparesCut) (found : Found) (m : Map) (names : List Name) (old new : S) → AllByRecursion (IsSpareName found) names → RestsAs found m (g.disk old)
-    → LeavesOnly g.clock g.left_since old new (IsCutBut names (g.disk old) (g.told old)) → LeavesOnly g.clock g.left_since old new (LeavesStanding m (g.told old))
+    → LeavesOnly g.clock g.left_since old new (IsCutBut names (g.disk old) (g.told old)) → LeavesOnly g.clock g.left_since old new (LeavesStanding (IsLeftAs found m) (g.told old))
 spares_stand g law found m names old new spare r leaves =
-    widened g.clock g.left_since old new (IsCutBut names (g.disk old) (g.told old)) (LeavesStanding m (g.told old))
-    (λ c cut. record { told_is = cut.told_is; stands = law found m names (g.disk old) (g.told old) c spare cut r }) leaves
+    widened g.clock g.left_since old new (IsCutBut names (g.disk old) (g.told old)) (LeavesStanding (IsLeftAs found m) (g.told old))
+    (λ c cut. record { told_is = cut.told_is; left = law found m names (g.disk old) (g.told old) c spare cut r }) leaves

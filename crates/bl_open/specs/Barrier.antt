@@ -1,16 +1,16 @@
 -- What a power cut leaves of an opening, before its barrier is over and behind it.
-use Rattle.std.specs.Prelude.{◌≡◌, ◌≢◌, ◌⊎◌, ℕ, ◌<◌, List, [], length, get_or, None, Some, IsSome}
-use Rattle.bl_site.specs.Disk.{Name, Folder, Disk, Cut, IsImage}
+use Rattle.std.specs.Prelude.{◌≡◌, ◌≢◌, ◌⊎◌, ℕ, ◌<◌, List, [], length, get_or, Some, IsSome}
+use Rattle.bl_site.specs.Disk.{Name, File, Folder, Disk, Cut, IsImage, folder_of, written_of}
 use Rattle.bl_site.specs.Calls.{LeavesOnly}
 use Rattle.bl_site.specs.declared.site.Site.{Ghosts}
 use Rattle.bl_names.specs.declared.name.FileName.{FileName}
 use Rattle.bl_names.specs.declared.name.FileName.TheVariants.{Table}
 use Rattle.bl_names.specs.Names.{HasNumber, IsNumber, name_of}
-use Rattle.bl_entry.specs.Revisions.{Map}
 use Rattle.bl_wal.specs.LogFile.{log_name}
 use Rattle.bl_out.specs.Files.{file}
 use Rattle.bl_folder.specs.Numbers.{number_of}
 use Rattle.bl_open.specs.SteadyCuts.{LeavesStanding}
+use Rattle.bl_open.specs.Synced.{synced_file}
 
 -- a cut might find this folder, of the disks that there may be
 abbrev pub MayBeFound : (Disk → Type 0) → Folder → Type 0
@@ -44,29 +44,34 @@ pub record BeforeBarrier (first : Name) (may_be : Disk → Type 0) (told : List 
   pub was : MayBeFound may_be found
   pub perhaps : (c.folder ≡ found) ⊎ HasEmptyFile first found c.folder
 
--- The barrier is over for a cut that finds a file which is not on the disk: what is left stands for the map.
-abbrev pub StandsBehind : Disk → Map → List ℕ → Cut → Type 0
-StandsBehind disk m told c = (name : Name) → disk name ≡ None → IsSome (c.folder name) → LeavesStanding m told c
-
 -- whether or not the barrier is over
-abbrev pub IsOnEitherSide : Name → (Disk → Type 0) → Map → List ℕ → Cut → Type 0
-IsOnEitherSide first may_be m told c = BeforeBarrier first may_be told c ⊎ LeavesStanding m told c
+abbrev pub IsOnEitherSide : Name → (Disk → Type 0) → (Cut → Type 0) → List ℕ → Cut → Type 0
+IsOnEitherSide first may_be stood told c = BeforeBarrier first may_be told c ⊎ LeavesStanding stood told c
 
--- a cut that finds no file but those of the disk
-abbrev pub FindsNoNewFile : Disk → Cut → Type 0
-FindsNoNewFile disk c = (name : Name) → IsSome (c.folder name) → IsSome (disk name)
+-- the same files, of which some may have been synced
+abbrev pub SyncsSome : Disk → Disk → Type 0
+SyncsSome old new = (name : Name) → (new name ≡ old name) ⊎ ((x : File) × (old name ≡ Some x) × (new name ≡ Some (synced_file x)))
 
--- no file was made
-abbrev pub MakesNoFile : Disk → Disk → Type 0
-MakesNoFile old new = (name : Name) → IsSome (new name) → IsSome (old name)
+-- what was written of a file is what was written of it on the disk; or it was synced since, as it read, and is left so
+abbrev pub IsWrittenOrSynced : Disk → Cut → Name → Type 0
+IsWrittenOrSynced disk c name = (c.written name ≡ written_of disk name) ⊎ ((c.written name ≡ folder_of disk name) × (c.folder name ≡ folder_of disk name))
 
--- Before the first name call of an opening: nothing was told, and what a cut leaves is a folder that one before might have left. No file was made; where no name call was in doubt none is, and a cut finds no new file.
+-- Nothing more was told, and a cut finds of each file what one may leave of it on this disk, and no other file; some may have been synced since.
+pub record FindsFiles (disk : Disk) (told : List ℕ) (c : Cut) : Type 0 where
+  pub told_is : c.told ≡ told
+  pub image : IsImage disk c.folder
+  pub written : (name : Name) → IsWrittenOrSynced disk c name
+
+-- a cut finds the files of the disk, or what it leaves stands so
+abbrev pub FindsOrLeaves : Disk → (Cut → Type 0) → List ℕ → Cut → Type 0
+FindsOrLeaves disk stood told c = FindsFiles disk told c ⊎ LeavesStanding stood told c
+
+-- Before the first name call of an opening: nothing was told, and what a cut leaves is a folder that one before might have left. Where no name call was in doubt none is, and a cut finds the files that were there.
 pub record MakesNothing {S : Type 0} (g : Ghosts S) (old new : S) : Type 0 where
   pub told : g.told new ≡ g.told old
   pub found : LeavesOnly g.clock g.left_since old new (LeavesFound (g.may_be old) (g.told old))
-  pub no_file : MakesNoFile (g.disk old) (g.disk new)
   pub certain : g.certain old → g.certain new
-  pub no_new : g.certain old → LeavesOnly g.clock g.left_since old new (FindsNoNewFile (g.disk old))
+  pub finds : g.certain old → LeavesOnly g.clock g.left_since old new (FindsFiles (g.disk old) (g.told old))
 
 -- the disk has a log of each of these numbers, and no other
 pub record AreTheLogs (numbers : List ℕ) (disk : Disk) : Type 0 where

@@ -27,7 +27,7 @@ use Rattle.bl_folder.specs.Stands.{IsSound}
 use Rattle.bl_open.specs.Found.{HasTables}
 use Rattle.bl_open.specs.Steady.{Maps, HasFiles}
 use Rattle.bl_open.specs.SteadyCalls.{IsAtRest}
-use Rattle.bl_open.specs.SteadyCuts.{LeavesStanding}
+use Rattle.bl_open.specs.SteadyCuts.{IsLeftFor, LeavesStanding}
 
 -- ---- files whose numbers are drawn
 
@@ -53,10 +53,10 @@ abbrev pub OthersKeepRest : Type 0
 OthersKeepRest = (from manifest : ℕ) (live : Restored) (m : Map) (old new : Disk) → IsBelow from live.version → KeepsOthers from old new
     → IsAtRest manifest live m old → IsAtRest manifest live m new
 
--- and a cut while these alone change stands for its map.
+-- and a cut while these alone change leaves its map.
 abbrev pub CutsBesideRest : Type 0
 CutsBesideRest = (from next manifest : ℕ) (live : Restored) (m : Map) (disk : Disk) (told : List ℕ) (c : Cut) → 1 ≤ from → next ≤ 10 ^ 15 → IsBelow from live.version
-    → IsAtRest manifest live m disk → IsCutBut (drawn from next) disk told c → LeavesStanding m told c
+    → IsAtRest manifest live m disk → IsCutBut (drawn from next) disk told c → LeavesStanding (IsLeftFor m) told c
 
 -- For a flush of the memory the numbers from one on up to below another are drawn: one for each file that the edit adds.
 pub record DrawsFor (options : Values) (memory : List Entry) (from next : ℕ) (e : Edit) : Type 0 where

@@ -1,7 +1,7 @@
 -- What an opening found, and what it makes of it.
 use Rattle.std.specs.Prelude.{◌≡◌, ◌⊎◌, ℕ, ◌<◌, ◌≤◌, [], Option, None, Some}
 use Rattle.std.specs.FinMap.{empty}
-use Rattle.bl_site.specs.Disk.{Name, Folder, Disk, folder_of}
+use Rattle.bl_site.specs.Disk.{Name, Folder, Disk, Cut, folder_of}
 use Rattle.bl_names.specs.declared.name.FileName.{FileName}
 use Rattle.bl_names.specs.declared.name.FileName.TheVariants.{Current, Manifest, Log, Table, Blob, Temp}
 use Rattle.bl_names.specs.Names.{IsNameOf, IsNumber}
@@ -17,6 +17,7 @@ use Rattle.bl_folder.specs.Settled.{IsSynced}
 use Rattle.bl_open.specs.Steady.{Maps, HasFiles}
 use Rattle.bl_open.specs.SteadyCalls.{IsAtRest, IsLoose}
 use Rattle.bl_open.specs.Installations.{TablesMake}
+use Rattle.bl_open.specs.SteadyCuts.{IsLeftFor}
 
 -- a fresh folder, or the number of a manifest and what it restores
 abbrev pub Found : Type 0
@@ -30,6 +31,15 @@ IsFoundAs (Some found) folder = IsLive folder found.0 found.1
 abbrev pub RestsAs : Found → Map → Disk → Type 0
 RestsAs None m disk = IsFresh (folder_of disk) × ((n : ℕ) → IsNumber n → IsSynced disk (Log n)) × (m ≡ empty)
 RestsAs (Some found) m disk = IsAtRest found.0 found.1 m disk
+
+-- What is left of what was found stands for this map, and its needed logs are left whole. Where a live part was found, one is left.
+abbrev pub IsLeftAs : Found → Map → Cut → Type 0
+IsLeftAs None m c = (IsFresh c.folder × (m ≡ empty)) ⊎ IsLeftFor m c
+IsLeftAs (Some found) m c = IsLeftFor m c
+
+-- so it is with what is left of this folder
+abbrev pub IsLeftStanding : Folder → Map → Cut → Type 0
+IsLeftStanding folder m c = (IsFresh folder × IsFresh c.folder × (m ≡ empty)) ⊎ IsLeftFor m c
 
 -- whatever is done with this file, the folder stays what was found: in a fresh folder it is a manifest or a temporary file, in another one it is not needed
 abbrev pub IsSpareFor : Found → FileName → Type 0

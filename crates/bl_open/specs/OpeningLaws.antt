@@ -21,10 +21,12 @@ use Rattle.bl_folder.specs.Holding.{Holding}
 use Rattle.bl_folder.specs.Live.{IsFresh}
 use Rattle.bl_folder.specs.Settled.{IsSettled}
 use Rattle.bl_folder.specs.Stands.{Stands}
-use Rattle.bl_open.specs.Steady.{Maps}
+use Rattle.bl_open.specs.Steady.{Maps, Steady, IsSteady, IsUsable, accepted, durable}
 use Rattle.bl_open.specs.SteadyCalls.{IsPastBarrier, IsReady, KeepsAllBut, Rests, begun}
 use Rattle.bl_open.specs.Installations.{Begins}
-use Rattle.bl_open.specs.Found.{AreAllBelow, Found, HasTables, IsDrawn, IsFoundAs, IsSpareFor, IsSpareName, MayBeMade, RestsAs}
+use Rattle.bl_open.specs.SteadyCuts.{LeavesMap}
+use Rattle.bl_open.specs.Barrier.{FindsOrLeaves}
+use Rattle.bl_open.specs.Found.{AreAllBelow, Found, HasTables, IsDrawn, IsFoundAs, IsLeftAs, IsLeftStanding, IsSpareFor, IsSpareName, MayBeMade, RestsAs}
 
 -- Past the barrier a settled disk rests as what was found;
 abbrev pub SettledRestAs : Type 0
@@ -53,11 +55,11 @@ NewFilesStay = (found : Found) (m : Map) (f : FileName) (old new : Disk) → Has
 -- A cut that leaves of each other file but these what it may leave of the disk leaves the map,
 abbrev pub SparesCut : Type 0
 SparesCut = (found : Found) (m : Map) (names : List Name) (disk : Disk) (told : List ℕ) (c : Cut) → AllByRecursion (IsSpareName found) names → IsCutBut names disk told c
-    → RestsAs found m disk → Stands c.folder m
+    → RestsAs found m disk → IsLeftAs found m c
 
 -- and so does each cut of the disk.
 abbrev pub CutsOfRestsAs : Type 0
-CutsOfRestsAs = (found : Found) (m : Map) (disk : Disk) (told : List ℕ) (c : Cut) → RestsAs found m disk → IsCut disk told c → Stands c.folder m
+CutsOfRestsAs = (found : Found) (m : Map) (disk : Disk) (told : List ℕ) (c : Cut) → RestsAs found m disk → IsCut disk told c → IsLeftAs found m c
 
 -- Tables and a new log begin a store,
 abbrev pub LogsBegin : Type 0
@@ -82,3 +84,8 @@ NewNumbersAreSpare = (from : ℕ) (found : Found) (f : FileName) → AreAllBelow
 abbrev pub FreshHasTables : Type 0
 FreshHasTables = (maps : Maps) (log : ℕ) (standing : Standing) (disk : Disk) → standing.log_number ≡ log → maps 0 ≡ empty → ((n : ℕ) → IsNumber n → log ≤ n → disk (log_name n) ≡ None)
     → HasTables maps log (no_holding standing) disk
+
+-- Where the disk was steady and no call had failed, a cut of an opening leaves the map after some first writes, all durable ones among them.
+abbrev pub OpeningsLeaveMaps : Type 0
+OpeningsLeaveMaps = (maps : Maps) (s : Steady) (disk : Disk) (told : List ℕ) (c : Cut) → IsSteady maps s disk → IsUsable s
+    → FindsOrLeaves disk (IsLeftStanding (folder_of disk) (maps (accepted s))) told c → LeavesMap maps (durable s) (accepted s) told c

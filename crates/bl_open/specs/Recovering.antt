@@ -1,9 +1,8 @@
 -- What an opening reads of a folder, and what it answers.
 use Rattle.std.specs.Prelude.{◌≡◌, ◌⊎◌, ℕ, ◌+◌, ◌^◌, ◌<◌, List, [], Result, Ok, Err}
-use Rattle.bl_site.specs.Disk.{Folder, Name, folder_of}
+use Rattle.bl_site.specs.Disk.{Cut, Folder, Name, folder_of}
 use Rattle.bl_site.specs.Calls.{LeavesOnly}
 use Rattle.bl_site.specs.declared.site.Site.{Ghosts}
-use Rattle.bl_entry.specs.Revisions.{Map}
 use Rattle.bl_build.specs.Restoring.{Restored}
 use Rattle.bl_entry.specs.Batches.{Batch}
 use Rattle.bl_entry.specs.declared.key.Entry.{Entry}
@@ -14,7 +13,7 @@ use Rattle.bl_folder.specs.Live.{IsFresh, IsLive}
 use Rattle.bl_folder.specs.Logs.{HaveBatches}
 use Rattle.bl_folder.specs.Numbers.{IsFirstNumber}
 use Rattle.bl_folder.specs.Flushes.{IsMemoryOf}
-use Rattle.bl_open.specs.Barrier.{IsNewFile, IsOnEitherSide, LeavesFound, StandsBehind}
+use Rattle.bl_open.specs.Barrier.{FindsOrLeaves, IsNewFile, IsOnEitherSide, LeavesFound}
 use Rattle.bl_open.specs.Beginning.{AddsFlush}
 use Rattle.bl_open.specs.Checks.{AllPass}
 use Rattle.bl_open.specs.Damage.{FilesOrLogsFail, LacksLive}
@@ -119,9 +118,9 @@ pub record IsFullLive (folder : Folder) (words : Words) : Type 0 where
 abbrev pub IsFull : Folder → Words → Type 0
 IsFull folder words = IsFullFresh folder ⊎ IsFullLive folder words
 
--- There is a first file of the opening, a new one, unless a cut leaves only what one before the opening might have left. A cut leaves that, but that this file may be there, empty; or it leaves the map. Where no name call was in doubt, one that finds a file which was not there leaves the map.
-pub record CutsAtBarrier {S : Type 0} (g : Ghosts S) (m : Map) (old new : S) : Type 0 where
+-- There is a first file of the opening, a new one, unless a cut leaves only what one before the opening might have left. A cut leaves that, but that this file may be there, empty; or what it leaves stands so. Where no name call was in doubt, it finds the files that were there, of which some may have been synced since; or what it leaves stands so.
+pub record CutsAtBarrier {S : Type 0} (g : Ghosts S) (stood : Cut → Type 0) (old new : S) : Type 0 where
   pub first : Name
   pub is_new : IsNewFile (folder_of (g.disk old)) first ⊎ LeavesOnly g.clock g.left_since old new (LeavesFound (g.may_be old) (g.told old))
-  pub sides : LeavesOnly g.clock g.left_since old new (IsOnEitherSide first (g.may_be old) m (g.told old))
-  pub behind : g.certain old → LeavesOnly g.clock g.left_since old new (StandsBehind (g.disk old) m (g.told old))
+  pub sides : LeavesOnly g.clock g.left_since old new (IsOnEitherSide first (g.may_be old) stood (g.told old))
+  pub finds : g.certain old → LeavesOnly g.clock g.left_since old new (FindsOrLeaves (g.disk old) stood (g.told old))

@@ -5,13 +5,13 @@ use Rattle.bl_names.specs.Names.{IsNumber}
 use Rattle.bl_entry.specs.Revisions.{Map}
 use Rattle.bl_records.specs.Chance.{NoChanceMatch}
 use Rattle.bl_wal.specs.LogFile.{log_name}
-use Rattle.bl_folder.specs.Stands.{Stands, StandsLive}
+use Rattle.bl_folder.specs.Stands.{StandsLive}
 use Rattle.bl_open.specs.Steady.{Maps}
 
--- nothing more was told, and what is left stands for this map
-pub record LeavesStanding (m : Map) (told : List ℕ) (c : Cut) : Type 0 where
+-- nothing more was told, and what is left stands so
+pub record LeavesStanding (stood : Cut → Type 0) (told : List ℕ) (c : Cut) : Type 0 where
   pub told_is : c.told ≡ told
-  pub stands : Stands c.folder m
+  pub left : stood c
 
 -- a byte stands under a name
 abbrev pub HasBytes : Option (List ℕ) → Type 0

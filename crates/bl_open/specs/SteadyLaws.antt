@@ -200,7 +200,7 @@ abbrev pub QuietKeepsRest : Type 0
 QuietKeepsRest = (manifest : ℕ) (live : Restored) (m : Map) (old new : Disk) → IsAtRest manifest live m old → KeepsRest manifest live old new → IsAtRest manifest live m new
 
 abbrev pub CutsOfRest : Type 0
-CutsOfRest = (manifest : ℕ) (live : Restored) (m : Map) (disk : Disk) (told : List ℕ) (c : Cut) → IsAtRest manifest live m disk → IsCut disk told c → Stands c.folder m
+CutsOfRest = (manifest : ℕ) (live : Restored) (m : Map) (disk : Disk) (told : List ℕ) (c : Cut) → IsAtRest manifest live m disk → IsCut disk told c → IsLeftFor m c
 
 -- So it is with a fresh folder too.
 abbrev pub CutsOfResting : Type 0

@@ -15,7 +15,7 @@ ghost use Rattle.bl_folder.specs.Stands.{Stands};
 ghost use Rattle.bl_open.specs.Causes.{FailsByFolder};
 ghost use Rattle.bl_open.specs.Keeping.{KeepsAllButLogs};
 ghost use Rattle.bl_open.specs.SteadyCalls.{IsPastBarrier, KeepsAllBut};
-ghost use Rattle.bl_open.specs.Barrier.{AreTheLogs, FindsNoNewFile, LeavesFound, MakesNoFile};
+ghost use Rattle.bl_open.specs.Barrier.{AreTheLogs, FindsFiles, LeavesFound, SyncsSome};
 ghost use Rattle.bl_open.specs.Found.{Found, IsFoundAs, RestsAs};
 
 use crate::error::OpenErr;
@@ -27,7 +27,7 @@ use bl_site::Site;
 use std::alloc::Global;
 
 /// Syncs a file that is in the folder. Whatever it answers, a cut meanwhile leaves a folder that one before might have
-/// left; a settled disk stays settled, but that after a failure a torn fragment's checksum may match by chance.
+/// left, and where no name call was in doubt it finds the files that were there; a settled disk stays settled, but that after a failure a torn fragment's checksum may match by chance.
 ///
 /// Errors: `Disk`; `OutOfMemory`.
 pub(crate) fn sync_file<S: Site>(
@@ -39,9 +39,8 @@ pub(crate) fn sync_file<S: Site>(
     requires there { S.shows → IsSome (S.disk site.old (name_of file.now)) }
     ensures done { S.shows → OnOk result (Syncs (name_of file.now) (S.disk site.old) (S.disk site.new)) }
     ensures only { S.shows → KeepsAllBut (name_of file.now) (S.disk site.old) (S.disk site.new) }
-    ensures no_file { S.shows → MakesNoFile (S.disk site.old) (S.disk site.new) }
     ensures before { S.shows → LeavesOnly S.clock S.left_since site.old site.new (LeavesFound (S.may_be site.old) (S.told site.old)) }
-    ensures no_new { S.shows → S.certain site.old → LeavesOnly S.clock S.left_since site.old site.new (FindsNoNewFile (S.disk site.old)) }
+    ensures finds { S.shows → S.certain site.old → LeavesOnly S.clock S.left_since site.old site.new (FindsFiles (S.disk site.old) (S.told site.old)) }
     ensures kept { S.shows → IsSettled (S.disk site.old) → OnOk result (IsSettled (S.disk site.new)) }
     ensures settled { S.shows → IsSettled (S.disk site.old) → NoChanceMatch (folder_of (S.disk site.new)) (written_of (S.disk site.new)) → IsSettled (S.disk site.new) }
     ensures certain { S.shows → S.certain site.old → S.certain site.new }
@@ -67,12 +66,12 @@ pub(crate) fn sync_logs<S: Site>(
     requires numbers { All IsNumber numbers.now }
     requires logs { S.shows → AreTheLogs numbers.now (S.disk site.old) }
     ensures same { S.shows → OnOk result (folder_of (S.disk site.new) ≡ folder_of (S.disk site.old)) }
+    ensures some { S.shows → OnOk result (SyncsSome (S.disk site.old) (S.disk site.new)) }
     ensures synced { S.shows → OnOk result ((n : ℕ) → IsNumber n → IsSynced (S.disk site.new) (Log n)) }
     ensures still { S.shows → OnOk result ((f : File) → IsSynced (S.disk site.old) f → IsSynced (S.disk site.new) f) }
     ensures only { S.shows → KeepsAllButLogs (S.disk site.old) (S.disk site.new) }
-    ensures no_file { S.shows → MakesNoFile (S.disk site.old) (S.disk site.new) }
     ensures before { S.shows → LeavesOnly S.clock S.left_since site.old site.new (LeavesFound (S.may_be site.old) (S.told site.old)) }
-    ensures no_new { S.shows → S.certain site.old → LeavesOnly S.clock S.left_since site.old site.new (FindsNoNewFile (S.disk site.old)) }
+    ensures finds { S.shows → S.certain site.old → LeavesOnly S.clock S.left_since site.old site.new (FindsFiles (S.disk site.old) (S.told site.old)) }
     ensures kept { S.shows → IsSettled (S.disk site.old) → OnOk result (IsSettled (S.disk site.new)) }
     ensures settled { S.shows → IsSettled (S.disk site.old) → NoChanceMatch (folder_of (S.disk site.new)) (written_of (S.disk site.new)) → IsSettled (S.disk site.new) }
     ensures certain { S.shows → S.certain site.old → S.certain site.new }
@@ -103,13 +102,13 @@ pub(crate) fn sync_found<S: Site>(
     requires numbers { All IsNumber numbers.now }
     requires logs { S.shows → AreTheLogs numbers.now (S.disk site.old) }
     ensures same { S.shows → OnOk result (folder_of (S.disk site.new) ≡ folder_of (S.disk site.old)) }
+    ensures some { S.shows → OnOk result (SyncsSome (S.disk site.old) (S.disk site.new)) }
     ensures past { S.shows → file_in (folder_of (S.disk site.old)) Current ≡ Some (current_text manifest) → OnOk result (IsPastBarrier (S.disk site.new)) }
     ensures rests { S.shows → (found : Found) (m : Map) → file_in (folder_of (S.disk site.old)) Current ≡ Some (current_text manifest) → IsFoundAs found (folder_of (S.disk site.old))
         → IsSettled (S.disk site.old) → Stands (folder_of (S.disk site.old)) m → OnOk result (RestsAs found m (S.disk site.new)) }
     ensures only { S.shows → KeepsAllButLogs (S.disk site.old) (S.disk site.new) }
-    ensures no_file { S.shows → MakesNoFile (S.disk site.old) (S.disk site.new) }
     ensures before { S.shows → LeavesOnly S.clock S.left_since site.old site.new (LeavesFound (S.may_be site.old) (S.told site.old)) }
-    ensures no_new { S.shows → S.certain site.old → LeavesOnly S.clock S.left_since site.old site.new (FindsNoNewFile (S.disk site.old)) }
+    ensures finds { S.shows → S.certain site.old → LeavesOnly S.clock S.left_since site.old site.new (FindsFiles (S.disk site.old) (S.told site.old)) }
     ensures settled { S.shows → IsSettled (S.disk site.old) → NoChanceMatch (folder_of (S.disk site.new)) (written_of (S.disk site.new)) → IsSettled (S.disk site.new) }
     ensures certain { S.shows → S.certain site.old → S.certain site.new }
     ensures tells_nothing { TellsNothing S.Site site.old site.new }

@@ -21,7 +21,7 @@ ghost use Rattle.bl_folder.specs.Settled.{IsSettled};
 ghost use Rattle.bl_open.specs.Barrier.{IsOnEitherSide};
 ghost use Rattle.bl_open.specs.Beginning.{AddsFlush, HoldsLoaded, IsBounded, IsInPlace, IsNumbered, IsOpened, StartsFrom, first_file, first_made};
 ghost use Rattle.bl_open.specs.Causes.{FailsByFolder, IsWriting};
-ghost use Rattle.bl_open.specs.Found.{Found, HasTables, IsSpareFor, RestsAs};
+ghost use Rattle.bl_open.specs.Found.{Found, HasTables, IsLeftAs, IsSpareFor, RestsAs};
 ghost use Rattle.bl_open.specs.Installations.{IsInstalled};
 ghost use Rattle.bl_open.specs.Keeping.{KeepsBefore};
 ghost use Rattle.bl_open.specs.Steady.{Maps, IsSteady};
@@ -108,10 +108,10 @@ fn start_store<S: Site>(
         → IfOk result (λ r. IsSteady maps (begun r.0 (snapshot version.now standing.now ∷ []) log h 0) (as_synced names (S.disk site.new))) }
     ensures sides { S.shows → (found : Found) (maps : Maps) (h : Holding) → RestsAs found (maps 0) (S.disk site.old) → IsSpareFor found (ManifestName manifest)
         → HasTables maps log h (S.disk site.old) → h.live ≡ record { version = version.now; standing = standing.now }
-        → LeavesOnly S.clock S.left_since site.old site.new (IsOnEitherSide (log_name log) (S.may_be site.old) (maps 0) (S.told site.old)) }
+        → LeavesOnly S.clock S.left_since site.old site.new (IsOnEitherSide (log_name log) (S.may_be site.old) (IsLeftAs found (maps 0)) (S.told site.old)) }
     ensures cuts { S.shows → S.certain site.old → (found : Found) (maps : Maps) (h : Holding) → RestsAs found (maps 0) (S.disk site.old) → IsSpareFor found (ManifestName manifest)
         → HasTables maps log h (S.disk site.old) → h.live ≡ record { version = version.now; standing = standing.now }
-        → LeavesOnly S.clock S.left_since site.old site.new (LeavesStanding (maps 0) (S.told site.old)) }
+        → LeavesOnly S.clock S.left_since site.old site.new (LeavesStanding (IsLeftAs found (maps 0)) (S.told site.old)) }
     ensures settled { S.shows → (found : Found) (maps : Maps) (h : Holding) → RestsAs found (maps 0) (S.disk site.old) → IsSpareFor found (ManifestName manifest)
         → HasTables maps log h (S.disk site.old) → h.live ≡ record { version = version.now; standing = standing.now } → IsSettled (S.disk site.new) }
     ensures certain { S.shows → OnOk result (S.certain site.new) }
@@ -126,7 +126,7 @@ fn start_store<S: Site>(
 
 /// Begins a store on what was loaded: draws a number for the manifest and the next one for the log, flushes the memory, makes the log
 /// and installs the version, so that no batch is left in a needed log. From a disk that rests as what was found a cut
-/// leaves its map, whatever is answered; before the first file is made it leaves what one before might have left; where no number is left for that file, the folder is not asked. At `Ok` the disk is
+/// leaves its map, needed logs whole, whatever is answered; before the first file is made it leaves what one before might have left; where no number is left for that file, the folder is not asked. At `Ok` the disk is
 /// steady: from a disk that holds what was loaded once some tables and blob files of lower numbers count as synced, as soon as these count so.
 ///
 /// Errors: `Disk`; `Full(10^15)`, only where the manifest, the log and the files of the flush take more numbers than are left; `OutOfMemory`.
@@ -141,9 +141,9 @@ pub(crate) fn begin<S: Site>(alloc: Global, site: &mut S, loaded: Loaded) -> Res
     ensures opened { S.shows → (names : List Name) → AreFilesBelow loaded.first names → (h : Holding) (m : Map) → HoldsLoaded h m loaded (as_synced names (S.disk site.old))
         → (maps : Maps) → maps 0 ≡ m → IfOk result (λ o. IsOpened maps o (as_synced names (S.disk site.new))) }
     ensures sides { S.shows → (found : Found) (h : Holding) (m : Map) → StartsFrom found h m loaded (S.disk site.old)
-        → LeavesOnly S.clock S.left_since site.old site.new (IsOnEitherSide (first_file loaded.memory loaded.first) (S.may_be site.old) m (S.told site.old)) }
+        → LeavesOnly S.clock S.left_since site.old site.new (IsOnEitherSide (first_file loaded.memory loaded.first) (S.may_be site.old) (IsLeftAs found m) (S.told site.old)) }
     ensures cuts { S.shows → S.certain site.old → (found : Found) (h : Holding) (m : Map) → StartsFrom found h m loaded (S.disk site.old)
-        → LeavesOnly S.clock S.left_since site.old site.new (LeavesStanding m (S.told site.old)) }
+        → LeavesOnly S.clock S.left_since site.old site.new (LeavesStanding (IsLeftAs found m) (S.told site.old)) }
     ensures settled { S.shows → (found : Found) (h : Holding) (m : Map) → StartsFrom found h m loaded (S.disk site.old) → IsSettled (S.disk site.new) }
     ensures certain { S.shows → OnOk result (S.certain site.new) }
     ensures full { (n : ℕ) → result ≡ Err (OpenErr.Full n) → (n ≡ 10 ^ 15) × (10 ^ 15 < next_of loaded.options [] (loaded.first + 2) loaded.memory) }

@@ -9,10 +9,12 @@ ghost use Rattle.bl_records.specs.Writing.{MakesSynced};
 ghost use Rattle.bl_out.specs.Quiet.{TouchesOnly};
 ghost use Rattle.bl_open.specs.Causes.{FailsByFolder};
 ghost use Rattle.bl_open.specs.Steady.{Maps, Steady, accepted};
-ghost use Rattle.bl_open.specs.SteadyCalls.{HasText, IsReady, Rests};
+ghost use Rattle.bl_open.specs.Found.{Found, IsLeftAs, RestsAs};
+ghost use Rattle.bl_open.specs.SteadyCalls.{HasText, IsReady};
 ghost use Rattle.bl_open.specs.SteadyCuts.{LeavesStanding};
 
 use crate::error::OpenErr;
+use crate::laws::barriers_let_disks_rest;
 use crate::steady::{renames_make_disks_steady, steady_disks_are_left};
 use bl_site::Site;
 
@@ -34,7 +36,7 @@ pub(crate) fn write_temp<S: Site>(site: &mut S, name: &str, text: &[u8]) -> Resu
 
 /// Renames the temporary file of this number, which is in the folder, to CURRENT. It is done at `Ok`, and done or not
 /// done otherwise. Where CURRENT's text stands in it and all else is there that a store stands on, a cut meanwhile
-/// leaves the map that the folder stands for. It takes no memory of its own.
+/// leaves the map that was found. It takes no memory of its own.
 ///
 /// Errors: `Disk`, and `OutOfMemory` of the folder.
 pub(crate) fn rename_current<S: Site>(
@@ -50,15 +52,16 @@ pub(crate) fn rename_current<S: Site>(
     ensures done { S.shows → OnOk result (Renames from.now to.now (S.disk site.old) (S.disk site.new)) }
     ensures either { S.shows → DoneOrNot (Renames from.now to.now) (S.disk site.old) (S.disk site.new) }
     ensures touches { TouchesOnly S.Site (from.now ∷ to.now ∷ []) site.old site.new }
-    ensures cuts { S.shows → S.certain site.old → (maps : Maps) (s : Steady) → Rests (maps (accepted s)) (S.disk site.old) → IsReady maps s (S.disk site.old)
+    ensures cuts { S.shows → S.certain site.old → (maps : Maps) (s : Steady) (found : Found) → RestsAs found (maps (accepted s)) (S.disk site.old) → IsReady maps s (S.disk site.old)
         → HasText temp s.manifest.number (S.disk site.old) → s.synced ≡ length s.own
-        → LeavesOnly S.clock S.left_since site.old site.new (LeavesStanding (maps (accepted s)) (S.told site.old)) }
+        → LeavesOnly S.clock S.left_since site.old site.new (LeavesStanding (IsLeftAs found (maps (accepted s))) (S.told site.old)) }
     ensures certain { S.shows → OnOk result (S.certain site.new) }
     ensures tells_nothing { TellsNothing S.Site site.old site.new }
     ensures fails { FailsByFolder S.Site result site.old site.new }
 {
     steady_disks_are_left();
     renames_make_disks_steady();
+    barriers_let_disks_rest();
     site.rename(from, to)?;
     Ok(())
 }

@@ -21,7 +21,7 @@ ghost use Rattle.bl_open.specs.SteadyCalls.{IsReady, begun};
 ghost use Rattle.bl_open.specs.SteadyCuts.{LeavesStanding};
 ghost use Rattle.bl_open.specs.Installations.{Begins};
 ghost use Rattle.bl_open.specs.Barrier.{BeforeBarrier};
-ghost use Rattle.bl_open.specs.Found.{Found, HasTables, MayBeMade, RestsAs};
+ghost use Rattle.bl_open.specs.Found.{Found, HasTables, IsLeftAs, MayBeMade, RestsAs};
 ghost use Rattle.bl_open.specs.Synced.{AreFilesBelow, as_synced};
 
 use crate::error::OpenErr;
@@ -65,7 +65,7 @@ pub(crate) fn make_log<S: Site>(alloc: Global, site: &mut S, number: u64) -> Res
     ensures before { S.shows → LeavesOnly S.clock S.left_since site.old site.new (BeforeBarrier (log_name number) (S.may_be site.old) (S.told site.old)) }
     ensures rests { S.shows → (found : Found) (m : Map) → MayBeMade found (S.disk site.old) (Log number) → RestsAs found m (S.disk site.old) → RestsAs found m (S.disk site.new) }
     ensures cuts { S.shows → S.certain site.old → (found : Found) (m : Map) → MayBeMade found (S.disk site.old) (Log number) → RestsAs found m (S.disk site.old)
-        → LeavesOnly S.clock S.left_since site.old site.new (LeavesStanding m (S.told site.old)) }
+        → LeavesOnly S.clock S.left_since site.old site.new (LeavesStanding (IsLeftAs found m) (S.told site.old)) }
     ensures certain { S.shows → OnOk result (S.certain site.new) }
     ensures tells_nothing { TellsNothing S.Site site.old site.new }
     ensures fails { FailsByFolder S.Site result site.old site.new }

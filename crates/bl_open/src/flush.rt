@@ -17,7 +17,7 @@ ghost use Rattle.bl_open.specs.Barrier.{BeforeBarrier, IsOnEitherSide};
 ghost use Rattle.bl_open.specs.Causes.{FailsByFolder, IsWriting};
 ghost use Rattle.bl_open.specs.Flushing.{DrawsFor, KeepsOthers, drawn};
 ghost use Rattle.bl_open.specs.SteadyCalls.{IsAtRest};
-ghost use Rattle.bl_open.specs.SteadyCuts.{LeavesStanding};
+ghost use Rattle.bl_open.specs.SteadyCuts.{IsLeftFor, LeavesStanding};
 
 use crate::error::OpenErr;
 use crate::files::make_file;
@@ -99,9 +99,9 @@ pub(crate) fn flush_found<S: Site>(
     ensures unmade { numbers.old ≡ 10 ^ 15 → (site.new ≡ site.old) × OnOk result (memory.now ≡ []) }
     ensures passed { S.shows → 1 ≤ length memory.now → OnOk result (S.certain site.new) }
     ensures sides { S.shows → (manifest : ℕ) (live : Restored) (m : Map) → IsAtRest manifest live m (S.disk site.old) → IsBelow numbers.old live.version
-        → LeavesOnly S.clock S.left_since site.old site.new (IsOnEitherSide (name_of (Table numbers.old)) (S.may_be site.old) m (S.told site.old)) }
+        → LeavesOnly S.clock S.left_since site.old site.new (IsOnEitherSide (name_of (Table numbers.old)) (S.may_be site.old) (IsLeftFor m) (S.told site.old)) }
     ensures cuts { S.shows → S.certain site.old → (manifest : ℕ) (live : Restored) (m : Map) → IsAtRest manifest live m (S.disk site.old) → IsBelow numbers.old live.version
-        → LeavesOnly S.clock S.left_since site.old site.new (LeavesStanding m (S.told site.old)) }
+        → LeavesOnly S.clock S.left_since site.old site.new (LeavesStanding (IsLeftFor m) (S.told site.old)) }
     ensures tells_nothing { TellsNothing S.Site site.old site.new }
     ensures causes { IfErr result IsWriting }
     ensures disk { IsErrOf result OpenErr.Disk → Rose (S.disk_faults site.old) (S.disk_faults site.new) }

@@ -4,8 +4,8 @@ ghost use Rattle.bl_open.specs.Flushing.{CutsBesideRest, DrawnAreUnneeded, Flush
 
 use bl_code::blob_indexes_are_unique;
 use bl_folder::{
-    flushed_folders_stand, flushes_keep_maps, live_parts_have_a_version, other_files_do_not_matter,
-    quiet_cuts_keep_needed, synced_disks_keep_their_map,
+    flushed_folders_stand, flushes_keep_maps, folders_stand_for_one_map, live_parts_have_a_version,
+    other_files_do_not_matter, quiet_cuts_keep_needed, synced_disks_keep_their_map,
 };
 use bl_index::index_is_read_again;
 use bl_names::names_one;
@@ -18,6 +18,7 @@ pub fn drawn_files_let_disks_rest()
     ensures cuts { CutsBesideRest }
 {
     names_one();
+    folders_stand_for_one_map();
     other_files_do_not_matter();
     quiet_cuts_keep_needed();
     synced_disks_keep_their_map();

@@ -21,7 +21,7 @@ ghost use Rattle.bl_open.specs.SteadyCalls.{IsReady, begun};
 ghost use Rattle.bl_open.specs.SteadyCuts.{LeavesStanding};
 ghost use Rattle.bl_open.specs.Synced.{AreFilesBelow, as_synced};
 ghost use Rattle.bl_open.specs.Installations.{Begins, HasCurrent, IsInstalled};
-ghost use Rattle.bl_open.specs.Found.{Found, IsSpareFor, RestsAs};
+ghost use Rattle.bl_open.specs.Found.{Found, IsLeftAs, IsSpareFor, RestsAs};
 
 use crate::current::{rename_current, write_temp};
 use crate::error::OpenErr;
@@ -61,7 +61,7 @@ pub(crate) fn name_manifest<S: Site>(
         → IsReady maps (begun made edits log h 0) (as_synced names (S.disk site.old)) → OnOk result (IsSteady maps (begun made edits log h 0) (as_synced names (S.disk site.new))) }
     ensures cuts { S.shows → S.certain site.old → (maps : Maps) (made : ManifestFile) (edits : Edits) (log : ℕ) (h : Holding) → made.number ≡ number
         → IsReady maps (begun made edits log h 0) (S.disk site.old) → h.batches ≡ [] → (found : Found) → RestsAs found (maps 0) (S.disk site.old)
-        → LeavesOnly S.clock S.left_since site.old site.new (LeavesStanding (maps 0) (S.told site.old)) }
+        → LeavesOnly S.clock S.left_since site.old site.new (LeavesStanding (IsLeftAs found (maps 0)) (S.told site.old)) }
     ensures settled { S.shows → (maps : Maps) (made : ManifestFile) (edits : Edits) (log : ℕ) (h : Holding) → made.number ≡ number → made.failed ≡ false
         → IsReady maps (begun made edits log h 0) (S.disk site.old) → (found : Found) → RestsAs found (maps 0) (S.disk site.old) → IsSettled (S.disk site.new) }
     ensures certain { S.shows → OnOk result (S.certain site.new) }
@@ -107,7 +107,7 @@ pub(crate) fn install_store<S: Site>(
     ensures steady { S.shows → (names : List Name) (from : ℕ) → AreFilesBelow from names → (maps : Maps) (log : ℕ) (h : Holding) → h.live ≡ record { version = version.now; standing = standing.now } → Begins maps 0 log h (as_synced names (S.disk site.old))
         → IfOk result (λ made. IsSteady maps (begun made (snapshot version.now standing.now ∷ []) log h 0) (as_synced names (S.disk site.new))) }
     ensures cuts { S.shows → S.certain site.old → (found : Found) (maps : Maps) (log : ℕ) (h : Holding) → h.live ≡ record { version = version.now; standing = standing.now } → Begins maps 0 log h (S.disk site.old)
-        → RestsAs found (maps 0) (S.disk site.old) → IsSpareFor found (ManifestName number) → LeavesOnly S.clock S.left_since site.old site.new (LeavesStanding (maps 0) (S.told site.old)) }
+        → RestsAs found (maps 0) (S.disk site.old) → IsSpareFor found (ManifestName number) → LeavesOnly S.clock S.left_since site.old site.new (LeavesStanding (IsLeftAs found (maps 0)) (S.told site.old)) }
     ensures settled { S.shows → (found : Found) (maps : Maps) (log : ℕ) (h : Holding) → h.live ≡ record { version = version.now; standing = standing.now } → Begins maps 0 log h (S.disk site.old)
         → RestsAs found (maps 0) (S.disk site.old) → IsSpareFor found (ManifestName number) → IsSettled (S.disk site.new) }
     ensures certain { S.shows → OnOk result (S.certain site.new) }

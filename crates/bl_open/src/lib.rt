@@ -29,7 +29,7 @@ pub use damage::{
 };
 pub use error::OpenErr;
 pub use flushing::{drawn_files_let_disks_rest, flushed_tables_make_the_map};
-pub use laws::{barriers_let_disks_rest, stores_begin};
+pub use laws::{barriers_let_disks_rest, openings_leave_maps, stores_begin};
 pub use opening::{create, recover};
 pub use steady::{
     installations_keep_disks_steady, quiet_calls_keep_disks_steady, renames_make_disks_steady,

@@ -1,6 +1,6 @@
 //! Opening a folder: a fresh one is made a store's, and one with CURRENT is recovered.
 
-ghost use Rattle.std.specs.Prelude.{◌≡◌, ℕ, ◌^◌, All, Err, IfOk, IfErr, OnOk, IsErrOf, IsSome};
+ghost use Rattle.std.specs.Prelude.{◌≡◌, ℕ, ◌^◌, All, None, Err, IfOk, IfErr, OnOk, IsErrOf, IsSome};
 ghost use Rattle.std.specs.FinMap.{empty};
 ghost use Rattle.bl_site.specs.Causes.{Rose};
 ghost use Rattle.bl_site.specs.Disk.{Folder, folder_of, written_of};
@@ -17,11 +17,13 @@ ghost use Rattle.bl_open.specs.Answers.{IsLoading};
 ghost use Rattle.bl_open.specs.Beginning.{IsBounded, IsInPlace, IsOpened, IsOpenedAsSynced, IsWithin};
 ghost use Rattle.bl_open.specs.Causes.{IsWriting};
 ghost use Rattle.bl_open.specs.Damage.{NamesManifest};
+ghost use Rattle.bl_open.specs.Found.{IsLeftAs, IsLeftStanding};
 ghost use Rattle.bl_open.specs.Keeping.{KeepsFound};
 ghost use Rattle.bl_open.specs.Listing.{AreListed, AreLogs};
 ghost use Rattle.bl_open.specs.Recovering.{AnswersAsRefused, CutsAtBarrier, HasLoaded, IsFull, IsFullFresh, IsRefusal, TakesFresh, TakesOver};
 ghost use Rattle.bl_open.specs.Replaying.{AreLogsFrom};
 ghost use Rattle.bl_open.specs.Steady.{Maps};
+ghost use Rattle.bl_open.specs.SteadyCuts.{IsLeftFor};
 
 use crate::asked::Asked;
 use crate::barrier::sync_found;
@@ -59,7 +61,7 @@ fn create_among<S: Site>(
     ensures in_place { S.shows → IfOk result (λ o. IsInPlace o (S.disk site.new)) }
     ensures keeps { S.shows → KeepsFound result (S.disk site.old) (S.disk site.new) }
     ensures opened { S.shows → (maps : Maps) → maps 0 ≡ empty → IfOk result (λ o. IsOpened maps o (S.disk site.new)) }
-    ensures cuts { S.shows → IsSettled (S.disk site.old) → CutsAtBarrier S.Site empty site.old site.new }
+    ensures cuts { S.shows → IsSettled (S.disk site.old) → CutsAtBarrier S.Site (IsLeftAs None empty) site.old site.new }
     ensures settled { S.shows → IsSettled (S.disk site.old) → IsSettled (S.disk site.new) }
     ensures certain { S.shows → OnOk result (S.certain site.new) }
     ensures full { (n : ℕ) → result ≡ Err (OpenErr.Full n) → (n ≡ 10 ^ 15) × (S.shows → IsFullFresh (folder_of (S.disk site.old))) }
@@ -97,7 +99,7 @@ pub fn create<S: Site>(alloc: Global, site: &mut S, options: &Options) -> Result
     ensures in_place { S.shows → IfOk result (λ o. IsInPlace o (S.disk site.new)) }
     ensures keeps { S.shows → KeepsFound result (S.disk site.old) (S.disk site.new) }
     ensures opened { S.shows → (maps : Maps) → maps 0 ≡ empty → IfOk result (λ o. IsOpened maps o (S.disk site.new)) }
-    ensures cuts { S.shows → IsSettled (S.disk site.old) → CutsAtBarrier S.Site empty site.old site.new }
+    ensures cuts { S.shows → IsSettled (S.disk site.old) → CutsAtBarrier S.Site (IsLeftAs None empty) site.old site.new }
     ensures settled { S.shows → IsSettled (S.disk site.old) → IsSettled (S.disk site.new) }
     ensures certain { S.shows → OnOk result (S.certain site.new) }
     ensures full { (n : ℕ) → result ≡ Err (OpenErr.Full n) → (n ≡ 10 ^ 15) × (S.shows → IsFullFresh (folder_of (S.disk site.old))) }
@@ -180,7 +182,7 @@ fn recover_live<S: Site>(
     ensures keeps { S.shows → KeepsFound result (S.disk site.old) (S.disk site.new) }
     ensures opened { S.shows → IsSettled (S.disk site.old) → (m : Map) → Stands (folder_of (S.disk site.old)) m → (maps : Maps) → maps 0 ≡ m → IfOk result (λ o. IsOpened maps o (S.disk site.new)) }
     ensures begins { S.shows → (m : Map) → Stands (folder_of (S.disk site.old)) m → (maps : Maps) → maps 0 ≡ m → IfOk result (λ o. IsOpenedAsSynced maps o (S.disk site.new)) }
-    ensures cuts { S.shows → IsSettled (S.disk site.old) → (m : Map) → Stands (folder_of (S.disk site.old)) m → CutsAtBarrier S.Site m site.old site.new }
+    ensures cuts { S.shows → IsSettled (S.disk site.old) → (m : Map) → Stands (folder_of (S.disk site.old)) m → CutsAtBarrier S.Site (IsLeftFor m) site.old site.new }
     ensures settled { S.shows → IsSettled (S.disk site.old) → IsSoundFolder (folder_of (S.disk site.old)) → NoChanceMatch (folder_of (S.disk site.new)) (written_of (S.disk site.new)) → IsSettled (S.disk site.new) }
     ensures certain { S.shows → OnOk result (S.certain site.new) }
     ensures answers { S.shows → AnswersAsRefused (folder_of (S.disk site.old)) asked.now result }
@@ -209,7 +211,7 @@ fn recover_live<S: Site>(
 /// once, and no file is read whole but the manifest and the logs.
 ///
 /// From a settled disk whose folder stands for a map, a cut meanwhile leaves what one before might have left, but that one file may be there, empty,
-/// or a folder that stands for this map; at `Ok` the disk is steady for it. From any disk whose folder stands for a map, it is so at `Ok` as if some tables
+/// or a folder that stands for this map, with its needed logs whole, and with a live part where one was found; at `Ok` the disk is steady for it. From any disk whose folder stands for a map, it is so at `Ok` as if some tables
 /// and blob files that were there before had been synced. At `Ok` no name call is in doubt. Nothing is told.
 ///
 /// Errors, the first three exactly where neither `Disk` nor `OutOfMemory` is answered: `Corrupt` with the first damaged name and place, and `Differ` at
@@ -223,7 +225,7 @@ pub fn recover<S: Site>(alloc: Global, site: &mut S, asked: &Asked) -> Result<Op
     ensures keeps { S.shows → KeepsFound result (S.disk site.old) (S.disk site.new) }
     ensures opened { S.shows → IsSettled (S.disk site.old) → (m : Map) → Stands (folder_of (S.disk site.old)) m → (maps : Maps) → maps 0 ≡ m → IfOk result (λ o. IsOpened maps o (S.disk site.new)) }
     ensures begins { S.shows → (m : Map) → Stands (folder_of (S.disk site.old)) m → (maps : Maps) → maps 0 ≡ m → IfOk result (λ o. IsOpenedAsSynced maps o (S.disk site.new)) }
-    ensures cuts { S.shows → IsSettled (S.disk site.old) → (m : Map) → Stands (folder_of (S.disk site.old)) m → CutsAtBarrier S.Site m site.old site.new }
+    ensures cuts { S.shows → IsSettled (S.disk site.old) → (m : Map) → Stands (folder_of (S.disk site.old)) m → CutsAtBarrier S.Site (IsLeftStanding (folder_of (S.disk site.old)) m) site.old site.new }
     ensures settled { S.shows → IsSettled (S.disk site.old) → IsSoundFolder (folder_of (S.disk site.old)) → NoChanceMatch (folder_of (S.disk site.new)) (written_of (S.disk site.new)) → IsSettled (S.disk site.new) }
     ensures certain { S.shows → OnOk result (S.certain site.new) }
     ensures answers { S.shows → AnswersAsRefused (folder_of (S.disk site.old)) asked.now result }

@@ -4,8 +4,8 @@ ghost use Rattle.bl_open.specs.SteadyLaws.{BackedStay, BatchesMakeMaps, Beginnin
 
 use bl_entry::{batches_join, operations_change_the_map};
 use bl_folder::{
-    fresh_folders_stand_for_the_empty_map, live_parts_have_a_version, other_files_do_not_matter,
-    synced_disks_keep_their_map,
+    folders_stand_for_one_map, fresh_folders_stand_for_the_empty_map, live_parts_have_a_version,
+    other_files_do_not_matter, synced_disks_keep_their_map,
 };
 use bl_manifest::{cut_manifests_read_as_fronts, manifests_are_read, synced_manifests_are_left};
 use bl_names::names_one;
@@ -132,6 +132,7 @@ pub fn renames_make_disks_steady()
 {
     names_one();
     logs_are_read();
+    folders_stand_for_one_map();
     live_parts_have_a_version();
     fresh_folders_stand_for_the_empty_map();
     other_files_do_not_matter();

@@ -25,7 +25,7 @@ use Rattle.bl_open.specs.SteadyCuts.{LeavesMap}
 use Rattle.bl_open.specs.SteadyLaws.{CutsOfSteady, SteadyAreSettled, WritesKeepSteady}
 use Rattle.bl_open.specs.Replaying.{IsFilled}
 use Rattle.bl_store.specs.Stored.{Stored}
-use Rattle.bl_store.specs.Synced.{as_synced}
+use Rattle.bl_open.specs.Synced.{as_synced}
 use Rattle.bl_store.specs.Held.{Held, maps_of, with_write}
 use Rattle.bl_store.specs.Standing.{HasWaiting, StandsFor}
 use Rattle.bl_store.specs.declared.store.Waiting.{Waiting}

@@ -1,5 +1,5 @@
 -- A compaction that is done on a steady disk may be installed.
-use Rattle.std.proofs.Common.{◌≡◌, ◌≢◌, ℕ, ◌+◌, ◌<◌, ◌≤◌, List, [], ◌∷◌, length, take, refl, sym, ◌∙◌, ap, subst, arith, Some, inl, inr}
+use Rattle.std.proofs.Common.{◌≡◌, ◌≢◌, ℕ, ◌+◌, ◌<◌, ◌≤◌, List, [], ◌∷◌, refl, sym, ◌∙◌, subst, arith, Some, inl, inr}
 use Rattle.std.specs.Prelude.{◌⊎◌, map, unwrap_or, Ok}
 use Rattle.std.specs.List.{AllByRecursion}
 use Rattle.bl_site.specs.Disk.{Disk, written_of}
@@ -15,8 +15,8 @@ use Rattle.bl_out.specs.Tables.{TableFile, table_entries, table_in}
 use Rattle.bl_out.specs.Values.{revision_of}
 use Rattle.bl_folder.specs.Entries.{records_by}
 use Rattle.bl_folder.specs.Flushes.{IsBelow}
-use Rattle.bl_folder.specs.Holding.{BlobFile, Holding, IsSpelled, blob_in}
-use Rattle.bl_folder.specs.Fronts.{cut_to, last_after}
+use Rattle.bl_folder.specs.Holding.{BlobFile, Holding, blob_in}
+use Rattle.bl_folder.specs.Fronts.{cut_to}
 use Rattle.bl_folder.specs.Settled.{IsSynced}
 use Rattle.bl_folder.specs.Stands.{IsSound}
 use Rattle.bl_compacted.specs.Plans.{IsClosed, inputs_of}
@@ -30,7 +30,7 @@ use Rattle.bl_compacted.proofs.Lists.{In, all_in, in_all, same}
 use Rattle.bl_open.specs.Installations.{TablesMake}
 use Rattle.bl_open.specs.Steady.{HasFiles, Maps, Steady, IsSteady}
 use Rattle.bl_open.specs.SteadyLaws.{EditsRestore, RewritesInstall, SteadyHoldWritten}
-use Rattle.bl_store.specs.Compacted.{AreBetween, AreOut, IsDone, MayBegin, compacted_by, with_next}
+use Rattle.bl_store.specs.Compacted.{AreBetween, AreOut, MayBegin, compacted_by, with_next}
 use Rattle.bl_store.specs.CompactionLaws.{CompactedStayBelow, DoneCompactionsInstall, DueMayInstall, JobsAreCompactions, NumbersAreFresh, SnapshotsSeeTheSame, SteadyAreHeld}
 
 -- ---- lists

@@ -32,7 +32,7 @@ use Rattle.bl_open.specs.Steady.{IsSteady, Maps, Steady}
 use Rattle.bl_open.specs.SteadyCalls.{Installs, IsQuietCall, installed}
 use Rattle.bl_open.specs.SteadyLaws.{EditsRestore, FlushesInstall, InstallsKeepCounts, QuietKeepsSteady, SteadyHoldWritten}
 use Rattle.bl_store.specs.Stored.{Stored}
-use Rattle.bl_store.specs.Synced.{as_synced, synced_file}
+use Rattle.bl_open.specs.Synced.{as_synced, synced_file}
 use Rattle.bl_store.specs.Flushing.{HasMade}
 use Rattle.bl_store.specs.Held.{Held, maps_of}
 use Rattle.bl_store.specs.Standing.{HasWaiting, StandsFor}

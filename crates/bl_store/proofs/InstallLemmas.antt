@@ -22,7 +22,7 @@ use Rattle.bl_open.specs.Steady.{Maps, Steady, IsSteady, durable, accepted}
 use Rattle.bl_open.specs.SteadyCalls.{Installs, KeepsAllBut, installed}
 use Rattle.bl_open.specs.SteadyCuts.{LeavesMap}
 use Rattle.bl_open.specs.SteadyLaws.{CutsOfInstalling, CutsOfSteady, InstallsKeepSteady, SteadyAreSettled, TornInstallsAreSettled}
-use Rattle.bl_store.specs.Synced.{AreFilesBelow, as_synced}
+use Rattle.bl_open.specs.Synced.{AreFilesBelow, as_synced}
 use Rattle.bl_store.proofs.SyncedLemmas.{keeps_synced, unsynced_at}
 
 -- once it is there and synced, the disk is steady with what was installed

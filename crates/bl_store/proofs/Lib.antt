@@ -15,3 +15,4 @@ mod InsertLemmas
 mod ComposeLemmas
 mod BesideLemmas
 mod CompactLemmas
+mod ReopenLemmas

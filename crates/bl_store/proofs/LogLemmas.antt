@@ -11,7 +11,7 @@ use Rattle.bl_open.specs.Steady.{IsSteady, Steady}
 use Rattle.bl_open.specs.SteadyCalls.{KeepsAllBut}
 use Rattle.bl_open.specs.SteadyLaws.{SteadyAreSettled, SyncsKeepSteady}
 use Rattle.bl_store.specs.Stored.{Stored}
-use Rattle.bl_store.specs.Synced.{as_synced}
+use Rattle.bl_open.specs.Synced.{as_synced}
 use Rattle.bl_store.specs.Held.{Held, all_durable, maps_of}
 use Rattle.bl_store.specs.Standing.{Carries, HasWaiting, StandsFor}
 use Rattle.bl_store.specs.declared.store.Waiting.{Waiting}
@@ -29,7 +29,7 @@ log_there one names held store disk t =
     let is : IsNumber store.log.number = subst (λ (l : LogFile). IsNumber l.number) t.carries.log b.is_number in
     same_held (as_synced names disk) disk store.log t.steady.own t.steady.synced (sym (unsynced_at one store.next names disk (Log store.log.number) t.found is tt)) in_use
 
-pub log_synced : NamesOne → (next : ℕ) (names : List Name) (disk : Disk) (log : LogFile) (own : Batches) (synced : ℕ) → Rattle.bl_store.specs.Synced.AreFilesBelow next names → IsNumber log.number
+pub log_synced : NamesOne → (next : ℕ) (names : List Name) (disk : Disk) (log : LogFile) (own : Batches) (synced : ℕ) → Rattle.bl_open.specs.Synced.AreFilesBelow next names → IsNumber log.number
     → HoldsBatches disk log own synced → HoldsBatches (as_synced names disk) log own synced
 log_synced one next names disk log own synced found is holds = same_held disk (as_synced names disk) log own synced (unsynced_at one next names disk (Log log.number) found is tt) holds
 

@@ -2,7 +2,7 @@
 use Rattle.std.proofs.Common.{◌≡◌, inl, inr, ℕ, List, [], ◌∷◌, length, drop, refl, sym, ◌∙◌, ap, subst, arith, Option, None, Some, IsSome, Result, Ok, Err}
 use Rattle.std.specs.List.{AllByRecursion}
 use Rattle.std.specs.Option.{option_map}
-use Rattle.bl_site.specs.Disk.{Disk as DiskSpec, File, Folder}
+use Rattle.bl_site.specs.Disk.{Disk as DiskSpec, File, Folder, Name}
 use Rattle.bl_names.specs.Names.{manifest_name}
 use Rattle.bl_entry.specs.Records.{LastIsCounted}
 use Rattle.bl_entry.specs.Revisions.{Map}
@@ -23,6 +23,7 @@ use Rattle.bl_open.specs.Options.{Words}
 use Rattle.bl_open.specs.Recovering.{AnswersAsRefused as OpeningAnswers, IsRefusal}
 use Rattle.bl_open.specs.Steady.{Steady}
 use Rattle.bl_open.specs.SteadyCalls.{begun}
+use Rattle.bl_open.specs.Synced.{AreFilesBelow, as_synced}
 use Rattle.bl_open.specs.declared.error.OpenErr.{OpenErr}
 use Rattle.bl_open.specs.declared.error.OpenErr.TheVariants as opening
 use Rattle.bl_store.specs.Causes.{of_opening}
@@ -30,6 +31,7 @@ use Rattle.bl_store.specs.Held.{begun_with, maps_of}
 use Rattle.bl_store.specs.Opening.{AnswersAsRefused, IsBegun, opened_of}
 use Rattle.bl_store.specs.Standing.{HasWaiting, IsThere, StandsFor}
 use Rattle.bl_store.specs.Stored.{Stored}
+use Rattle.bl_store.proofs.SyncedLemmas.{below_more}
 use Rattle.bl_store.specs.declared.error.StoreErr.{StoreErr}
 use Rattle.bl_store.specs.declared.error.StoreErr.TheVariants.{Disk, OutOfMemory, Corrupt, Full, NoSnapshot, NoCursor, Many, Broken, Differ}
 
@@ -37,13 +39,13 @@ none_after : (last : ℕ) → last_after last [] ≡ last
 none_after last = omega arith
 
 -- the store stands for the map that was found
-module _ (m : Map) (store : Stored) (disk : DiskSpec) (b : IsBegun store) (place : IsInPlace (opened_of store) disk) (o : IsOpened (maps_of (begun_with m)) (opened_of store) disk) where
+module _ (names : List Name) (m : Map) (store : Stored) (disk : DiskSpec) (b : IsBegun store) (place : IsInPlace (opened_of store) disk) (o : IsOpened (maps_of (begun_with m)) (opened_of store) (as_synced names disk)) where
   abbrev s : Steady
   s = begun store.manifest (snapshot store.version store.standing ∷ []) store.standing.log_number o.holding 0
 
   last : LogsAreRead → LastIsCounted → s.holding.last ≡ store.last
   last read counted =
-      last_is read counted (maps_of (begun_with m)) s disk o.steady.backed
+      last_is read counted (maps_of (begun_with m)) s (as_synced names disk) o.steady.backed
       ∙ ap (last_after s.holding.live.standing.last_sequence) o.batches
       ∙ none_after s.holding.live.standing.last_sequence
       ∙ ap (λ (r : Restored). r.standing.last_sequence) o.live
@@ -54,8 +56,8 @@ module _ (m : Map) (store : Stored) (disk : DiskSpec) (b : IsBegun store) (place
       subst (λ (es : List Entry). Holds es (entries_of (drop 0 s.holding.batches)) store.last) (sym b.memory)
       (subst (λ (bs : Batches). Holds [] (entries_of bs) store.last) (sym o.batches) (none store.last))
 
-  pub opened_stands : LogsAreRead → LastIsCounted → NoneIsHeld → StandsFor [] (begun_with m) store disk
-  opened_stands read counted none =
+  pub opened_stands : LogsAreRead → LastIsCounted → NoneIsHeld → AreFilesBelow store.manifest.number names → StandsFor names (begun_with m) store disk
+  opened_stands read counted none found =
       let none_yet : length o.holding.batches ≡ 0 = ap (λ (bs : Batches). length bs) o.batches in
       let number : store.log.number ≡ store.standing.log_number = ap (λ (l : LogFile). l.number) b.log in
       let above = place.numbers.log in
@@ -79,7 +81,7 @@ module _ (m : Map) (store : Stored) (disk : DiskSpec) (b : IsBegun store) (place
         };
         writes = omega (arith, none_yet);
         durable = omega arith;
-        found = tt;
+        found = below_more store.manifest.number store.next names (omega (arith, above, next, is)) found;
       }
 
 -- the files that it writes are there

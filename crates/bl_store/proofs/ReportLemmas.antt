@@ -11,7 +11,7 @@ use Rattle.bl_open.specs.SteadyLaws.{SteadyHold, SteadyStand}
 use Rattle.bl_store.specs.Held.{Held, maps_of, now_of}
 use Rattle.bl_store.specs.Standing.{IsOnDisk, StandsFor}
 use Rattle.bl_store.specs.Stored.{IsInOrder, Stored}
-use Rattle.bl_store.specs.Synced.{as_synced}
+use Rattle.bl_open.specs.Synced.{as_synced}
 use Rattle.bl_store.proofs.HeldLemmas.{maps_last}
 use Rattle.bl_store.proofs.SyncedLemmas.{same_folder}
 

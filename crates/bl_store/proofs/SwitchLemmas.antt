@@ -30,7 +30,7 @@ use Rattle.bl_open.specs.SteadyCuts.{LeavesMap}
 use Rattle.bl_open.specs.SteadyLaws.{CutsOfSteady, NewLogsAreQuiet, QuietKeepsSteady, SteadyAreSettled, SwitchesKeepSteady}
 use Rattle.bl_store.specs.Stored.{Stored}
 use Rattle.bl_store.specs.Switching.{switched, undrawn}
-use Rattle.bl_store.specs.Synced.{as_synced}
+use Rattle.bl_open.specs.Synced.{as_synced}
 use Rattle.bl_store.specs.Held.{Held, all_durable, maps_of}
 use Rattle.bl_store.specs.Standing.{HasWaiting, StandsFor}
 use Rattle.bl_store.proofs.MomentLemmas.{cut_of, settled_of}

@@ -11,7 +11,7 @@ use Rattle.bl_names.specs.declared.name.FileName.TheVariants.{Current, Manifest,
 use Rattle.bl_names.specs.Names.{HasNumber, NamesOne, name_of}
 use Rattle.bl_open.proofs.FrameLemmas.{apart}
 use Rattle.bl_open.specs.SteadyCalls.{KeepsAllBut}
-use Rattle.bl_store.specs.Synced.{AreFilesBelow, as_synced, synced_file}
+use Rattle.bl_open.specs.Synced.{AreFilesBelow, as_synced, synced_file}
 
 -- ---- what a name reads
 

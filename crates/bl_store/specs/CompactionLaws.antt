@@ -1,5 +1,5 @@
 -- Laws of compactions on steady disks.
-use Rattle.std.specs.Prelude.{◌≡◌, ℕ, ◌≤◌, List}
+use Rattle.std.specs.Prelude.{ℕ, ◌≤◌, List}
 use Rattle.bl_site.specs.Disk.{Disk}
 use Rattle.bl_edit.specs.declared.edit.Edit.{Edit}
 use Rattle.bl_build.specs.declared.plan.CompactionPlan.{CompactionPlan}

@@ -1,5 +1,4 @@
 pub mod Stored
-pub mod Synced
 pub mod Held
 pub mod Standing
 pub mod Causes
@@ -7,5 +6,6 @@ pub mod Calls
 pub mod Switching
 pub mod Flushing
 pub mod Opening
+pub mod Reopening
 pub mod Compacted
 pub mod CompactionLaws

@@ -14,7 +14,7 @@ use Rattle.bl_folder.specs.Stands.{StandsLive}
 use Rattle.bl_open.specs.Installations.{switched_at}
 use Rattle.bl_open.specs.Steady.{Steady, IsSteady, accepted, durable}
 use Rattle.bl_store.specs.Stored.{Stored}
-use Rattle.bl_store.specs.Synced.{AreFilesBelow, as_synced}
+use Rattle.bl_open.specs.Synced.{AreFilesBelow, as_synced}
 use Rattle.bl_store.specs.Held.{Held, maps_of}
 use Rattle.bl_store.specs.declared.store.Waiting.{Waiting}
 
@@ -48,6 +48,10 @@ pub record StandsFor (names : List Name) (held : Held) (store : Stored) (disk : 
   pub writes : accepted steady ≡ length held.writes
   pub durable : held.durable ≤ durable steady
   pub found : AreFilesBelow store.next names
+
+-- The store stands so as if some tables and blob files of lower numbers had been synced.
+abbrev pub StandsAsSynced : Held → Stored → Disk → Type 0
+StandsAsSynced held store disk = (names : List Name) × StandsFor names held store disk
 
 -- The folder stands for the map, and its live part is what the store has: its manifest, its version, and what stands beside that.
 pub record IsOnDisk (store : Stored) (m : Map) (folder : Folder) : Type 0 where

@@ -24,7 +24,7 @@ ghost use Rattle.bl_store.specs.Flushing.{HasFlushed, HasMade};
 ghost use Rattle.bl_store.specs.Held.{Held, all_durable};
 ghost use Rattle.bl_store.specs.Standing.{IsThere, StandsFor};
 ghost use Rattle.bl_store.specs.Stored.{IsWaiting};
-ghost use Rattle.bl_store.specs.Synced.{AreFilesBelow, as_synced};
+ghost use Rattle.bl_open.specs.Synced.{AreFilesBelow, as_synced};
 
 use crate::error::StoreErr;
 use crate::store::{Store, Waiting};

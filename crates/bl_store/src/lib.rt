@@ -6,6 +6,7 @@ mod compacted;
 mod error;
 mod flush;
 mod opening;
+mod reopen;
 mod report;
 mod store;
 mod switch;

@@ -9,12 +9,13 @@ ghost use Rattle.bl_records.specs.Chance.{NoChanceMatch};
 ghost use Rattle.bl_folder.specs.Settled.{IsSettled};
 ghost use Rattle.bl_folder.specs.Stands.{IsSoundFolder, Stands};
 ghost use Rattle.bl_open.specs.Beginning.{IsWithin};
+ghost use Rattle.bl_open.specs.Found.{IsLeftStanding};
 ghost use Rattle.bl_open.specs.Recovering.{CutsAtBarrier, IsFull, IsRefusal, TakesOver};
 ghost use Rattle.bl_open.specs.declared.error.OpenErr.{OpenErr as OpenErrSpec};
 ghost use Rattle.bl_store.specs.Causes.{IsOpening, of_opening};
 ghost use Rattle.bl_store.specs.Held.{begun_with};
 ghost use Rattle.bl_store.specs.Opening.{AnswersAsRefused, IsBegun, KeepsFound, opened_of};
-ghost use Rattle.bl_store.specs.Standing.{IsThere, StandsFor};
+ghost use Rattle.bl_store.specs.Standing.{IsThere, StandsAsSynced, StandsFor};
 
 use crate::error::StoreErr;
 use crate::store::Store;
@@ -51,7 +52,9 @@ impl Store {
     /// it is checked, its logs are replayed and flushed, and a new log and a new manifest take their place. No entry is in memory then.
     ///
     /// From a settled disk whose folder stands for a map, a cut meanwhile leaves what one before might have left, but that one file may be
-    /// there, empty, or a folder that stands for this map; at `Ok` the store stands on the disk for it, and no name call is in doubt.
+    /// there, empty, or a folder that stands for this map, with its needed logs whole, and with a live part where one was found; at `Ok` the
+    /// store stands on the disk for it, and no name call is in doubt. From any disk whose folder stands for a map, the store stands for it at
+    /// `Ok` as if some tables and blob files that were there had been synced.
     ///
     /// Errors, the first three exactly where neither `Disk` nor `OutOfMemory` is answered: `Corrupt` with the first damaged name and place,
     /// and `Differ` at the first option whose word is not the stored value, each where that comes first; the folder reads as before.
@@ -61,8 +64,9 @@ impl Store {
         ensures begun { IfOk result IsBegun }
         ensures takes { S.shows → IfOk result (λ store. TakesOver (folder_of (S.disk site.old)) asked.now (opened_of store)) }
         ensures there { S.shows → IfOk result (λ store. IsThere store (S.disk site.new)) }
+        ensures begins { S.shows → (m : Map) → Stands (folder_of (S.disk site.old)) m → IfOk result (λ store. StandsAsSynced (begun_with m) store (S.disk site.new)) }
         ensures stands { S.shows → IsSettled (S.disk site.old) → (m : Map) → Stands (folder_of (S.disk site.old)) m → IfOk result (λ store. StandsFor [] (begun_with m) store (S.disk site.new)) }
-        ensures cuts { S.shows → IsSettled (S.disk site.old) → (m : Map) → Stands (folder_of (S.disk site.old)) m → CutsAtBarrier S.Site m site.old site.new }
+        ensures cuts { S.shows → IsSettled (S.disk site.old) → (m : Map) → Stands (folder_of (S.disk site.old)) m → CutsAtBarrier S.Site (IsLeftStanding (folder_of (S.disk site.old)) m) site.old site.new }
         ensures settled { S.shows → IsSettled (S.disk site.old) → IsSoundFolder (folder_of (S.disk site.old)) → NoChanceMatch (folder_of (S.disk site.new)) (written_of (S.disk site.new)) → IsSettled (S.disk site.new) }
         ensures certain { S.shows → OnOk result (S.certain site.new) }
         ensures keeps { S.shows → KeepsFound result (S.disk site.old) (S.disk site.new) }

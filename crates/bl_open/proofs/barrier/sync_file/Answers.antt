@@ -3,8 +3,8 @@ use Rattle.bl_site.specs.Disk.{Name}
 use Rattle.bl_names.specs.Names.{name_of}
 use Rattle.bl_site.specs.Calls.{Syncs, Frays}
 use Rattle.bl_site.proofs.Images.{sync_outcome}
-use Rattle.bl_open.proofs.MomentLemmas.{synced_found, synced_new}
-use Rattle.bl_open.proofs.OutcomeLemmas.{sync_no_file, sync_settled, synced_others}
+use Rattle.bl_open.proofs.MomentLemmas.{synced_files, synced_found}
+use Rattle.bl_open.proofs.OutcomeLemmas.{sync_settled, synced_others}
 use Rattle.bl_open.proofs.barrier.sync_file.Given as given
 use Rattle.bl_open.proofs.barrier.sync_file.Goals as goal
 
@@ -14,9 +14,6 @@ failed g c shown =
     let a = c.sync.ensures in
     sync_outcome c.as_str.result.now (g.S.Site.disk c.args.site.now) (g.S.Site.disk c.sync.new.self) c.sync.result (a.done shown) (a.failed shown) (λ e. (a.memory shown e).same) a.cause.not_tell
 
-pub returns-in_err-sync-clause-no_file : goal.returns-in_err-sync-clause-no_file
-returns-in_err-sync-clause-no_file g c = λ shown. sync_no_file c.as_str.result.now _ _ (failed g c shown)
-
 pub returns-in_err-sync-clause-before : goal.returns-in_err-sync-clause-before
 returns-in_err-sync-clause-before g c = λ shown.
     let site = g.S.Site in
@@ -25,12 +22,13 @@ returns-in_err-sync-clause-before g c = λ shown.
     synced_found site name old c.sync.new.self (g.met.S.Site.only_now shown old) (g.met.S.Site.remnant shown old name) (failed g c shown)
     (c.sync.ensures.doubt shown) (c.sync.ensures.told shown) (c.sync.ensures.time shown)
 
-pub returns-in_err-sync-clause-no_new : goal.returns-in_err-sync-clause-no_new
-returns-in_err-sync-clause-no_new g c = λ shown sure.
+pub returns-in_err-sync-clause-finds : goal.returns-in_err-sync-clause-finds
+returns-in_err-sync-clause-finds g c = λ shown sure.
     let site = g.S.Site in
     let old = c.args.site.now in
-    synced_new site old c.sync.new.self (g.met.S.Site.only_now shown old) (λ other. g.met.S.Site.only shown old other sure)
-    (λ other. g.met.S.Site.only shown c.sync.new.self other (c.sync.ensures.certain shown sure)) (sync_no_file c.as_str.result.now _ _ (failed g c shown)) (c.sync.ensures.time shown)
+    let name = c.as_str.result.now in
+    synced_files site name old c.sync.new.self (g.met.S.Site.only_now shown old) (λ other. g.met.S.Site.only shown old other sure)
+    (λ other. g.met.S.Site.only shown c.sync.new.self other (c.sync.ensures.certain shown sure)) (g.met.S.Site.remnant shown old name) (failed g c shown) (c.sync.ensures.told shown) (c.sync.ensures.time shown)
 
 pub returns-in_err-sync-clause-settled : goal.returns-in_err-sync-clause-settled
 returns-in_err-sync-clause-settled g c = λ shown settled chance.
@@ -47,9 +45,6 @@ done g c shown =
     let a = c.sync.ensures in
     sync_outcome c.as_str.result.now (g.S.Site.disk c.args.site.now) (g.S.Site.disk c.sync.new.self) c.sync.result (a.done shown) (a.failed shown) (λ e. (a.memory shown e).same) a.cause.not_tell
 
-pub returns-clause-no_file : goal.returns-clause-no_file
-returns-clause-no_file g c = λ shown. sync_no_file c.as_str.result.now _ _ (done g c shown)
-
 pub returns-clause-before : goal.returns-clause-before
 returns-clause-before g c = λ shown.
     let site = g.S.Site in
@@ -58,12 +53,13 @@ returns-clause-before g c = λ shown.
     synced_found site name old c.sync.new.self (g.met.S.Site.only_now shown old) (g.met.S.Site.remnant shown old name) (done g c shown)
     (c.sync.ensures.doubt shown) (c.sync.ensures.told shown) (c.sync.ensures.time shown)
 
-pub returns-clause-no_new : goal.returns-clause-no_new
-returns-clause-no_new g c = λ shown sure.
+pub returns-clause-finds : goal.returns-clause-finds
+returns-clause-finds g c = λ shown sure.
     let site = g.S.Site in
     let old = c.args.site.now in
-    synced_new site old c.sync.new.self (g.met.S.Site.only_now shown old) (λ other. g.met.S.Site.only shown old other sure)
-    (λ other. g.met.S.Site.only shown c.sync.new.self other (c.sync.ensures.certain shown sure)) (sync_no_file c.as_str.result.now _ _ (done g c shown)) (c.sync.ensures.time shown)
+    let name = c.as_str.result.now in
+    synced_files site name old c.sync.new.self (g.met.S.Site.only_now shown old) (λ other. g.met.S.Site.only shown old other sure)
+    (λ other. g.met.S.Site.only shown c.sync.new.self other (c.sync.ensures.certain shown sure)) (g.met.S.Site.remnant shown old name) (done g c shown) (c.sync.ensures.told shown) (c.sync.ensures.time shown)
 
 pub returns-clause-settled : goal.returns-clause-settled
 returns-clause-settled g c = λ shown settled chance.

@@ -3,7 +3,8 @@ use Rattle.bl_site.specs.Disk.{Folder}
 use Rattle.bl_names.specs.declared.name.FileName.TheVariants.{Manifest}
 use Rattle.bl_folder.specs.Stands.{Stands}
 use Rattle.bl_open.specs.Found.{IsFoundAs}
-use Rattle.bl_open.proofs.MomentLemmas.{then_found, then_new}
+use Rattle.bl_names.specs.Names.{manifest_name}
+use Rattle.bl_open.proofs.MomentLemmas.{some_synced, some_then, then_files, then_found}
 use Rattle.bl_open.proofs.OutcomeLemmas.{logs_still, on_ok_4, on_ok_of, past_barrier}
 use Rattle.bl_open.proofs.barrier.sync_found.Goals as goal
 
@@ -45,11 +46,20 @@ returns-clause-before g c = λ shown.
     then_found site c.args.site.now c.sync_file.new.site c.sync_logs.new.site (g.met.S.Site.counts_now shown c.sync_file.new.site) (c.sync_file.ensures.tells_nothing.told shown)
     (c.sync_file.ensures.before shown) (c.sync_logs.ensures.before shown)
 
-pub returns-clause-no_new : goal.returns-clause-no_new
-returns-clause-no_new g c = λ shown sure.
+pub returns-clause-finds : goal.returns-clause-finds
+returns-clause-finds g c = λ shown sure.
     let site = g.S.Site in
-    then_new site c.args.site.now c.sync_file.new.site c.sync_logs.new.site (c.sync_file.ensures.no_file shown)
-    (c.sync_file.ensures.no_new shown sure) (c.sync_logs.ensures.no_new shown (c.sync_file.ensures.certain shown sure))
+    let old = c.args.site.now in
+    let mid = c.sync_file.new.site in
+    then_files site old mid c.sync_logs.new.site (g.met.S.Site.remnant shown old) (some_synced (manifest_name c.args.manifest) (site.disk old) (site.disk mid) (c.in_ok-sync_file.ensures.done shown))
+    (c.sync_file.ensures.tells_nothing.told shown) (c.sync_file.ensures.finds shown sure) (c.sync_logs.ensures.finds shown (c.sync_file.ensures.certain shown sure))
+
+pub returns-clause-some : goal.returns-clause-some
+returns-clause-some g c = λ shown.
+    let old = g.S.Site.disk c.args.site.now in
+    let mid = g.S.Site.disk c.sync_file.new.site in
+    let new = g.S.Site.disk c.sync_logs.new.site in
+    on_ok_of c.sync_logs.result _ _ (c.sync_logs.ensures.some shown) (λ some. some_then old mid new (some_synced (manifest_name c.args.manifest) old mid (c.in_ok-sync_file.ensures.done shown)) some)
 
 pub returns-clause-settled : goal.returns-clause-settled
 returns-clause-settled g c = λ shown settled chance. c.sync_logs.ensures.settled shown (c.in_ok-sync_file.ensures.kept shown settled) chance

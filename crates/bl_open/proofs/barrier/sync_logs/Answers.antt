@@ -4,7 +4,7 @@ use Rattle.bl_names.specs.declared.name.FileName.TheVariants.{Log}
 use Rattle.bl_folder.specs.Settled.{IsSynced}
 use Rattle.bl_site.proofs.Quiet.{reading_is_silent, reads_nothing, silent_on}
 use Rattle.bl_wal.specs.LogFile.{log_name}
-use Rattle.bl_open.proofs.MomentLemmas.{none_found, none_new, then_found, then_new}
+use Rattle.bl_open.proofs.MomentLemmas.{none_files, none_found, none_synced, some_synced, some_then, then_files, then_found}
 use Rattle.bl_open.proofs.OutcomeLemmas.{all_logs_synced, there_still}
 use Rattle.bl_open.proofs.barrier.sync_logs.Goals as goal
 
@@ -33,10 +33,10 @@ loop-number-preserved g c =
       still = λ shown f was. (laws.syncs (Log number) one two (c.in_ok-sync_file.ensures.done shown)).2 f (i.still shown f was);
       kept = λ shown settled. c.in_ok-sync_file.ensures.kept shown (i.kept shown settled);
       only = λ shown name is. c.sync_file.ensures.only shown name (is number (c.requires.numbers c.loop-number.number-index 0 (omega (arith, c.loop-number-test.true)))).0 ∙ i.only shown name is;
-      no_file = λ shown name some. i.no_file shown name (c.sync_file.ensures.no_file shown name some);
-      no_new = λ shown sure.
-          then_new site c.args.site.now c.loop-number.site c.sync_file.new.site (i.no_file shown) (i.no_new shown sure)
-          (c.sync_file.ensures.no_new shown (i.certain shown sure));
+      some = λ shown. some_then (site.disk c.args.site.now) one two (i.some shown) (some_synced (log_name number) one two (c.in_ok-sync_file.ensures.done shown));
+      finds = λ shown sure.
+          then_files site c.args.site.now c.loop-number.site c.sync_file.new.site (g.met.S.Site.remnant shown c.args.site.now) (i.some shown) (i.tells_nothing.told shown) (i.finds shown sure)
+          (c.sync_file.ensures.finds shown (i.certain shown sure));
       certain = λ shown sure. c.sync_file.ensures.certain shown (i.certain shown sure);
       before = λ shown.
           then_found site c.args.site.now c.loop-number.site c.sync_file.new.site (g.met.S.Site.counts_now shown c.loop-number.site) (i.tells_nothing.told shown)
@@ -54,8 +54,8 @@ loop-number-init g c =
       still = λ shown f was. was;
       kept = λ shown settled. settled;
       only = λ shown name is. refl;
-      no_file = λ shown name some. some;
-      no_new = λ shown sure. none_new site old (g.met.S.Site.only_now shown old) (λ other. g.met.S.Site.only shown old other sure);
+      some = λ shown. none_synced (site.disk old) (site.disk old) refl;
+      finds = λ shown sure. none_files site old (g.met.S.Site.only_now shown old) (λ other. g.met.S.Site.only shown old other sure);
       certain = λ shown sure. sure;
       before = λ shown. none_found site old (g.met.S.Site.only_now shown old);
       tells_nothing = reading_is_silent site old old (reads_nothing site old);
@@ -74,12 +74,12 @@ returns-in_err-sync_file-clause-before g c = λ shown.
     then_found site c.args.site.now c.loop-number.site c.sync_file.new.site (g.met.S.Site.counts_now shown c.loop-number.site) (i.tells_nothing.told shown)
     (i.before shown) (c.sync_file.ensures.before shown)
 
-pub returns-in_err-sync_file-clause-no_new : goal.returns-in_err-sync_file-clause-no_new
-returns-in_err-sync_file-clause-no_new g c = λ shown sure.
+pub returns-in_err-sync_file-clause-finds : goal.returns-in_err-sync_file-clause-finds
+returns-in_err-sync_file-clause-finds g c = λ shown sure.
     let site = g.S.Site in
     let i = c.loop-number.invariant in
-    then_new site c.args.site.now c.loop-number.site c.sync_file.new.site (i.no_file shown) (i.no_new shown sure)
-    (c.sync_file.ensures.no_new shown (i.certain shown sure))
+    then_files site c.args.site.now c.loop-number.site c.sync_file.new.site (g.met.S.Site.remnant shown c.args.site.now) (i.some shown) (i.tells_nothing.told shown) (i.finds shown sure)
+    (c.sync_file.ensures.finds shown (i.certain shown sure))
 
 pub returns-in_err-sync_file-clause-settled : goal.returns-in_err-sync_file-clause-settled
 returns-in_err-sync_file-clause-settled g c = λ shown settled chance. c.sync_file.ensures.settled shown (c.loop-number.invariant.kept shown settled) chance

@@ -14,7 +14,7 @@ use Rattle.bl_names.specs.declared.name.FileName.TheVariants.{Manifest}
 use Rattle.bl_names.specs.Names.{IsNumber}
 use Rattle.bl_wal.specs.LogFile.{log_name}
 use Rattle.bl_open.specs.Barrier.{IsOnEitherSide}
-use Rattle.bl_open.specs.Found.{IsSpareFor}
+use Rattle.bl_open.specs.Found.{IsLeftAs, IsSpareFor}
 use Rattle.bl_open.specs.Installations.{IsInstalled}
 use Rattle.bl_wal.specs.Held.{HoldsBatches}
 use Rattle.bl_open.specs.Steady.{Maps}
@@ -112,8 +112,8 @@ returns-in_err-manifest-2-clause-sides g c = λ shown found h m s.
     maps c.in_ok-log.log first at_log in
     let rests = rests_now site found h m l old s (g.met.S.Site.only_now shown old) c.drawn_files_let_disks_rest.ensures.rest laws.cuts mid c.draw-2.new.self at keeps c.flush_found.ensures.idle in
     let spare : IsSpareFor found (Manifest c.in_ok-manifest.manifest) = subst (λ (n : ℕ). IsSpareFor found (Manifest n)) (sym at_manifest) (manifest_spare laws.numbers l.first found s.below) in
-    let start : LeavesOnly site.clock site.left_since mid c.start_store.new.site (IsOnEitherSide (log_name (l.first + 1)) (site.may_be mid) m (site.told mid)) =
-    subst (λ (n : ℕ). LeavesOnly site.clock site.left_since mid c.start_store.new.site (IsOnEitherSide (log_name n) (site.may_be mid) m (site.told mid))) at_log
+    let start : LeavesOnly site.clock site.left_since mid c.start_store.new.site (IsOnEitherSide (log_name (l.first + 1)) (site.may_be mid) (IsLeftAs found m) (site.told mid)) =
+    subst (λ (n : ℕ). LeavesOnly site.clock site.left_since mid c.start_store.new.site (IsOnEitherSide (log_name n) (site.may_be mid) (IsLeftAs found m) (site.told mid))) at_log
     (c.start_store.ensures.sides shown found (λ n. m) h_after rests spare (tables (λ n. m) refl) live) in
     store_sides site found h m l old s (g.met.S.Site.only_now shown old) c.drawn_files_let_disks_rest.ensures.rest laws.cuts mid c.draw-2.new.self at keeps c.flush_found.ensures.idle
     c.start_store.new.site (c.flush_found.ensures.tells_nothing.told shown) (c.in_ok-edit.ensures.passed shown) (c.flush_found.ensures.sides shown) start
@@ -197,8 +197,8 @@ returns-clause-sides g c = λ shown found h m s.
     maps c.in_ok-log.log first at_log in
     let rests = rests_now site found h m l old s (g.met.S.Site.only_now shown old) c.drawn_files_let_disks_rest.ensures.rest laws.cuts mid c.draw-2.new.self at keeps c.flush_found.ensures.idle in
     let spare : IsSpareFor found (Manifest c.in_ok-manifest.manifest) = subst (λ (n : ℕ). IsSpareFor found (Manifest n)) (sym at_manifest) (manifest_spare laws.numbers l.first found s.below) in
-    let start : LeavesOnly site.clock site.left_since mid c.start_store.new.site (IsOnEitherSide (log_name (l.first + 1)) (site.may_be mid) m (site.told mid)) =
-    subst (λ (n : ℕ). LeavesOnly site.clock site.left_since mid c.start_store.new.site (IsOnEitherSide (log_name n) (site.may_be mid) m (site.told mid))) at_log
+    let start : LeavesOnly site.clock site.left_since mid c.start_store.new.site (IsOnEitherSide (log_name (l.first + 1)) (site.may_be mid) (IsLeftAs found m) (site.told mid)) =
+    subst (λ (n : ℕ). LeavesOnly site.clock site.left_since mid c.start_store.new.site (IsOnEitherSide (log_name n) (site.may_be mid) (IsLeftAs found m) (site.told mid))) at_log
     (c.start_store.ensures.sides shown found (λ n. m) h_after rests spare (tables (λ n. m) refl) live) in
     store_sides site found h m l old s (g.met.S.Site.only_now shown old) c.drawn_files_let_disks_rest.ensures.rest laws.cuts mid c.draw-2.new.self at keeps c.flush_found.ensures.idle
     c.start_store.new.site (c.flush_found.ensures.tells_nothing.told shown) (c.in_ok-edit.ensures.passed shown) (c.flush_found.ensures.sides shown) start

@@ -1,11 +1,12 @@
 use Rattle.std.proofs.Common.{[], ◌∙◌}
 use Rattle.bl_wal.specs.LogFile.{log_name}
+use Rattle.bl_open.specs.Found.{IsLeftAs}
 use Rattle.bl_open.proofs.StartLemmas.{log_may, side_before, then_side, then_stands}
 use Rattle.bl_open.proofs.begin.start_store.Goals as goal
 
 pub returns-in_err-wal-clause-sides : goal.returns-in_err-wal-clause-sides
 returns-in_err-wal-clause-sides g c = λ shown found maps h rests spare t live.
-    side_before g.S.Site (log_name c.args.log) (maps 0) c.args.site.now c.make_log.new.site (c.make_log.ensures.before shown)
+    side_before g.S.Site (log_name c.args.log) (IsLeftAs found (maps 0)) c.args.site.now c.make_log.new.site (c.make_log.ensures.before shown)
 
 pub returns-in_err-wal-clause-cuts : goal.returns-in_err-wal-clause-cuts
 returns-in_err-wal-clause-cuts g c = λ shown sure found maps h rests spare t live.
@@ -22,8 +23,8 @@ returns-in_err-made-clause-sides g c = λ shown found maps h rests spare t live.
     let first = c.make_log.ensures in
     let disk = g.S.Site.disk c.args.site.now in
     let may = log_may found maps c.args.log h disk c.requires.log t in
-    then_side g.S.Site (log_name c.args.log) (maps 0) c.args.site.now c.make_log.new.site c.install_store.new.site (first.tells_nothing.told shown)
-    (side_before g.S.Site (log_name c.args.log) (maps 0) c.args.site.now c.make_log.new.site (first.before shown))
+    then_side g.S.Site (log_name c.args.log) (IsLeftAs found (maps 0)) c.args.site.now c.make_log.new.site c.install_store.new.site (first.tells_nothing.told shown)
+    (side_before g.S.Site (log_name c.args.log) (IsLeftAs found (maps 0)) c.args.site.now c.make_log.new.site (first.before shown))
     (c.install_store.ensures.cuts shown (c.in_ok-wal.ensures.certain shown) found maps c.args.log h live (c.in_ok-wal.ensures.begins shown [] 0 tt maps h t) (first.rests shown found (maps 0) may rests) spare)
 
 pub returns-in_err-made-clause-cuts : goal.returns-in_err-made-clause-cuts
@@ -31,7 +32,7 @@ returns-in_err-made-clause-cuts g c = λ shown sure found maps h rests spare t l
     let first = c.make_log.ensures in
     let disk = g.S.Site.disk c.args.site.now in
     let may = log_may found maps c.args.log h disk c.requires.log t in
-    then_stands g.S.Site (log_name c.args.log) (maps 0) c.args.site.now c.make_log.new.site c.install_store.new.site (first.tells_nothing.told shown)
+    then_stands g.S.Site (log_name c.args.log) (IsLeftAs found (maps 0)) c.args.site.now c.make_log.new.site c.install_store.new.site (first.tells_nothing.told shown)
     (first.cuts shown sure found (maps 0) may rests)
     (c.install_store.ensures.cuts shown (c.in_ok-wal.ensures.certain shown) found maps c.args.log h live (c.in_ok-wal.ensures.begins shown [] 0 tt maps h t) (first.rests shown found (maps 0) may rests) spare)
 
@@ -44,15 +45,15 @@ pub returns-clause-sides : goal.returns-clause-sides
 returns-clause-sides g c = λ shown found maps h rests spare t live.
     let first = c.make_log.ensures in
     let may = log_may found maps c.args.log h (g.S.Site.disk c.args.site.now) c.requires.log t in
-    then_side g.S.Site (log_name c.args.log) (maps 0) c.args.site.now c.make_log.new.site c.install_store.new.site (first.tells_nothing.told shown)
-    (side_before g.S.Site (log_name c.args.log) (maps 0) c.args.site.now c.make_log.new.site (first.before shown))
+    then_side g.S.Site (log_name c.args.log) (IsLeftAs found (maps 0)) c.args.site.now c.make_log.new.site c.install_store.new.site (first.tells_nothing.told shown)
+    (side_before g.S.Site (log_name c.args.log) (IsLeftAs found (maps 0)) c.args.site.now c.make_log.new.site (first.before shown))
     (c.install_store.ensures.cuts shown (c.in_ok-wal.ensures.certain shown) found maps c.args.log h live (c.in_ok-wal.ensures.begins shown [] 0 tt maps h t) (first.rests shown found (maps 0) may rests) spare)
 
 pub returns-clause-cuts : goal.returns-clause-cuts
 returns-clause-cuts g c = λ shown sure found maps h rests spare t live.
     let first = c.make_log.ensures in
     let may = log_may found maps c.args.log h (g.S.Site.disk c.args.site.now) c.requires.log t in
-    then_stands g.S.Site (log_name c.args.log) (maps 0) c.args.site.now c.make_log.new.site c.install_store.new.site (first.tells_nothing.told shown)
+    then_stands g.S.Site (log_name c.args.log) (IsLeftAs found (maps 0)) c.args.site.now c.make_log.new.site c.install_store.new.site (first.tells_nothing.told shown)
     (first.cuts shown sure found (maps 0) may rests)
     (c.install_store.ensures.cuts shown (c.in_ok-wal.ensures.certain shown) found maps c.args.log h live (c.in_ok-wal.ensures.begins shown [] 0 tt maps h t) (first.rests shown found (maps 0) may rests) spare)
 

@@ -16,10 +16,10 @@ returns-in_err-rename-clause-touches g c =
     rename_touches g.S.Site c.args.from.now old c.rename.new.self c.rename.result e.memory e.cause.not_tell (λ shown. laws.only shown old) (λ shown. laws.only_now shown old) c.args.to.now e.done e.failed e.time
 
 pub returns-in_err-rename-clause-cuts : goal.returns-in_err-rename-clause-cuts
-returns-in_err-rename-clause-cuts g c = λ shown sure maps s r ready text all.
+returns-in_err-rename-clause-cuts g c = λ shown sure maps s found r ready text all.
     let laws = g.met.S.Site in
     let old = c.args.site.now in
-    renamed g.S.Site c.renames_make_disks_steady.ensures.resting c.renames_make_disks_steady.ensures.after c.steady_disks_are_left.ensures.synced maps s c.args.temp c.args.from.now c.args.to.now
+    renamed g.S.Site c.barriers_let_disks_rest.ensures.cuts c.renames_make_disks_steady.ensures.after c.steady_disks_are_left.ensures.synced maps s found c.args.temp c.args.from.now c.args.to.now
     old c.rename.new.self c.requires.number c.requires.from_named c.requires.to_named r ready text all (laws.only_now shown old) (λ other. laws.only shown old other sure) (c.rename.ensures.time shown)
 
 pub returns-clause-either : goal.returns-clause-either
@@ -35,8 +35,8 @@ returns-clause-touches g c =
     rename_touches g.S.Site c.args.from.now old c.rename.new.self c.rename.result e.memory e.cause.not_tell (λ shown. laws.only shown old) (λ shown. laws.only_now shown old) c.args.to.now e.done e.failed e.time
 
 pub returns-clause-cuts : goal.returns-clause-cuts
-returns-clause-cuts g c = λ shown sure maps s r ready text all.
+returns-clause-cuts g c = λ shown sure maps s found r ready text all.
     let laws = g.met.S.Site in
     let old = c.args.site.now in
-    renamed g.S.Site c.renames_make_disks_steady.ensures.resting c.renames_make_disks_steady.ensures.after c.steady_disks_are_left.ensures.synced maps s c.args.temp c.args.from.now c.args.to.now
+    renamed g.S.Site c.barriers_let_disks_rest.ensures.cuts c.renames_make_disks_steady.ensures.after c.steady_disks_are_left.ensures.synced maps s found c.args.temp c.args.from.now c.args.to.now
     old c.rename.new.self c.requires.number c.requires.from_named c.requires.to_named r ready text all (laws.only_now shown old) (λ other. laws.only shown old other sure) (c.rename.ensures.time shown)

@@ -3,7 +3,7 @@ use Rattle.bl_site.specs.Calls.{Creates}
 use Rattle.bl_names.specs.declared.name.FileName.TheVariants.{Log}
 use Rattle.bl_wal.specs.LogFile.{log_name, new_log}
 use Rattle.bl_out.proofs.QuietLemmas.{create_stays, touches_named}
-use Rattle.bl_open.specs.Found.{RestsAs}
+use Rattle.bl_open.specs.Found.{IsLeftAs, RestsAs}
 use Rattle.bl_open.proofs.MomentLemmas.{made_before, rest_call, rest_start}
 use Rattle.bl_open.proofs.OutcomeLemmas.{files_stay_any, log_outcome}
 use Rattle.bl_open.proofs.FrameLemmas.{same_held}
@@ -43,8 +43,8 @@ returns-in_err-wal-clause-cuts g c = λ shown sure found m may r.
     let s = g.S.Site in
     let laws = c.barriers_let_disks_rest.ensures in
     let old = c.args.site.now in
-    rest_call s (RestsAs found m) m (laws.cuts found m) (Creates (log_name c.args.number)) old old c.create.new.site
-    (rest_start s (RestsAs found m) m (laws.cuts found m) old (g.met.S.Site.only_now shown old) (λ other. g.met.S.Site.only shown old other sure) r) refl (λ other. g.met.S.Site.only shown old other sure) r
+    rest_call s (RestsAs found m) (IsLeftAs found m) (laws.cuts found m) (Creates (log_name c.args.number)) old old c.create.new.site
+    (rest_start s (RestsAs found m) (IsLeftAs found m) (laws.cuts found m) old (g.met.S.Site.only_now shown old) (λ other. g.met.S.Site.only shown old other sure) r) refl (λ other. g.met.S.Site.only shown old other sure) r
     (λ after made. laws.files found m (Log c.args.number) (s.disk old) after c.requires.number may made r) (c.create.ensures.time shown)
 
 pub returns-clause-before : goal.returns-clause-before
@@ -79,8 +79,8 @@ returns-clause-cuts g c = λ shown sure found m may r.
     let s = g.S.Site in
     let laws = c.barriers_let_disks_rest.ensures in
     let old = c.args.site.now in
-    rest_call s (RestsAs found m) m (laws.cuts found m) (Creates (log_name c.args.number)) old old c.create.new.site
-    (rest_start s (RestsAs found m) m (laws.cuts found m) old (g.met.S.Site.only_now shown old) (λ other. g.met.S.Site.only shown old other sure) r) refl (λ other. g.met.S.Site.only shown old other sure) r
+    rest_call s (RestsAs found m) (IsLeftAs found m) (laws.cuts found m) (Creates (log_name c.args.number)) old old c.create.new.site
+    (rest_start s (RestsAs found m) (IsLeftAs found m) (laws.cuts found m) old (g.met.S.Site.only_now shown old) (λ other. g.met.S.Site.only shown old other sure) r) refl (λ other. g.met.S.Site.only shown old other sure) r
     (λ after made. laws.files found m (Log c.args.number) (s.disk old) after c.requires.number may made r) (c.create.ensures.time shown)
 
 pub returns-clause-begins : goal.returns-clause-begins

@@ -11,6 +11,7 @@ use Rattle.bl_open.proofs.MomentLemmas.{all_before, none_found, rest_start}
 use Rattle.bl_open.proofs.TableLemmas.{all_cuts, all_sides, first_cuts, no_flush, others_stay}
 use Rattle.bl_open.specs.Barrier.{BeforeBarrier, IsOnEitherSide}
 use Rattle.bl_open.specs.SteadyCalls.{IsAtRest}
+use Rattle.bl_open.specs.SteadyCuts.{IsLeftFor}
 use Rattle.bl_open.proofs.flush.flush_found.Goals as goal
 
 no_entry : (es : List Entry) → length es ≡ 0 → es ≡ []
@@ -28,26 +29,26 @@ returns-then-count-eq0-clause-sides g c = λ shown manifest live m rest below.
     let s = g.S.Site in
     let site = c.args.site.now in
     let name = name_of (Table c.args.numbers.now) in
-    widened s.clock s.left_since site site (BeforeBarrier name (s.may_be site) (s.told site)) (IsOnEitherSide name (s.may_be site) m (s.told site)) (λ x b. inl b)
+    widened s.clock s.left_since site site (BeforeBarrier name (s.may_be site) (s.told site)) (IsOnEitherSide name (s.may_be site) (IsLeftFor m) (s.told site)) (λ x b. inl b)
     (all_before s name site site (none_found s site (g.met.S.Site.only_now shown site)))
 
 pub returns-then-count-eq0-clause-cuts : goal.returns-then-count-eq0-clause-cuts
 returns-then-count-eq0-clause-cuts g c = λ shown sure manifest live m rest below.
     let site = c.args.site.now in
-    rest_start g.S.Site (IsAtRest manifest live m) m (c.barriers_let_disks_rest.ensures.cuts (Some (manifest, live)) m) site (g.met.S.Site.only_now shown site) (λ other. g.met.S.Site.only shown site other sure) rest
+    rest_start g.S.Site (IsAtRest manifest live m) (IsLeftFor m) (c.barriers_let_disks_rest.ensures.cuts (Some (manifest, live)) m) site (g.met.S.Site.only_now shown site) (λ other. g.met.S.Site.only shown site other sure) rest
 
 pub returns-then-next-eq-FILE_LIMIT-clause-sides : goal.returns-then-next-eq-FILE_LIMIT-clause-sides
 returns-then-next-eq-FILE_LIMIT-clause-sides g c = λ shown manifest live m rest below.
     let s = g.S.Site in
     let site = c.args.site.now in
     let name = name_of (Table c.args.numbers.now) in
-    widened s.clock s.left_since site site (BeforeBarrier name (s.may_be site) (s.told site)) (IsOnEitherSide name (s.may_be site) m (s.told site)) (λ x b. inl b)
+    widened s.clock s.left_since site site (BeforeBarrier name (s.may_be site) (s.told site)) (IsOnEitherSide name (s.may_be site) (IsLeftFor m) (s.told site)) (λ x b. inl b)
     (all_before s name site site (none_found s site (g.met.S.Site.only_now shown site)))
 
 pub returns-then-next-eq-FILE_LIMIT-clause-cuts : goal.returns-then-next-eq-FILE_LIMIT-clause-cuts
 returns-then-next-eq-FILE_LIMIT-clause-cuts g c = λ shown sure manifest live m rest below.
     let site = c.args.site.now in
-    rest_start g.S.Site (IsAtRest manifest live m) m (c.barriers_let_disks_rest.ensures.cuts (Some (manifest, live)) m) site (g.met.S.Site.only_now shown site) (λ other. g.met.S.Site.only shown site other sure) rest
+    rest_start g.S.Site (IsAtRest manifest live m) (IsLeftFor m) (c.barriers_let_disks_rest.ensures.cuts (Some (manifest, live)) m) site (g.met.S.Site.only_now shown site) (λ other. g.met.S.Site.only shown site other sure) rest
 
 pub returns-in_err-make_table-clause-cuts : goal.returns-in_err-make_table-clause-cuts
 returns-in_err-make_table-clause-cuts g c = λ shown sure manifest live m rest below.

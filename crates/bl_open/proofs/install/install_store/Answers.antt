@@ -11,7 +11,7 @@ use Rattle.bl_manifest.specs.ManifestFile.{ManifestFile}
 use Rattle.bl_out.proofs.QuietLemmas.{touches_join}
 use Rattle.bl_open.specs.Steady.{IsSteady}
 use Rattle.bl_open.specs.SteadyCalls.{IsReady, begun}
-use Rattle.bl_open.specs.Found.{RestsAs}
+use Rattle.bl_open.specs.Found.{IsLeftAs, RestsAs}
 use Rattle.bl_open.proofs.MomentLemmas.{rest_start, then_standing}
 use Rattle.bl_open.proofs.NamingLemmas.{current_kept, first_of_three, installed_so, last_of_three, log_stays, manifest_stays}
 use Rattle.bl_open.proofs.RestoreLemmas.{snapshot_restores}
@@ -23,7 +23,7 @@ use Rattle.bl_open.proofs.install.install_store.Goals as goal
 pub returns-in_err-edit-clause-cuts : goal.returns-in_err-edit-clause-cuts
 returns-in_err-edit-clause-cuts g c = λ shown sure found maps log h live begins r spare.
     let old = c.args.site.now in
-    rest_start g.S.Site (RestsAs found (maps 0)) (maps 0) (c.barriers_let_disks_rest.ensures.cuts found (maps 0)) old (g.met.S.Site.only_now shown old) (λ other. g.met.S.Site.only shown old other sure) r
+    rest_start g.S.Site (RestsAs found (maps 0)) (IsLeftAs found (maps 0)) (c.barriers_let_disks_rest.ensures.cuts found (maps 0)) old (g.met.S.Site.only_now shown old) (λ other. g.met.S.Site.only shown old other sure) r
 
 pub returns-in_err-edit-clause-settled : goal.returns-in_err-edit-clause-settled
 returns-in_err-edit-clause-settled g c = λ shown found maps log h live begins r spare.
@@ -99,7 +99,7 @@ returns-in_err-name_manifest-clause-cuts g c = λ shown sure found maps log h li
     let given : restored_by (c.in_ok-edit.edit ∷ []) ≡ Some h.live = ap (λ (x : Edit). restored_by (x ∷ [])) edit_is ∙ restores ∙ ap Some (sym live) in
     let ready : IsReady maps (begun made (c.in_ok-edit.edit ∷ []) log h 0) mid = c.in_ok-made.ensures.ready shown [] 0 tt maps log h begins given in
     let rest_mid : RestsAs found (maps 0) mid = laws.touched found (maps 0) (manifest_name number ∷ []) old mid ((Manifest number, (c.requires.number, refl), spare), tt) (c.make_manifest.ensures.touches.others shown) r in
-    then_standing site (maps 0) c.args.site.now c.make_manifest.new.site c.name_manifest.new.site (c.make_manifest.ensures.tells_nothing.told shown)
+    then_standing site (IsLeftAs found (maps 0)) c.args.site.now c.make_manifest.new.site c.name_manifest.new.site (c.make_manifest.ensures.tells_nothing.told shown)
     (spares_stand site laws.left found (maps 0) (manifest_name number ∷ []) c.args.site.now c.make_manifest.new.site ((Manifest number, (c.requires.number, refl), spare), tt) r (c.make_manifest.ensures.touches.cuts shown sure))
     (c.name_manifest.ensures.cuts shown (c.in_ok-made.ensures.certain shown) maps made (c.in_ok-edit.edit ∷ []) log h is ready begins.batches found rest_mid)
 
@@ -163,7 +163,7 @@ returns-clause-cuts g c = λ shown sure found maps log h live begins r spare.
     let given : restored_by (c.in_ok-edit.edit ∷ []) ≡ Some h.live = ap (λ (x : Edit). restored_by (x ∷ [])) edit_is ∙ restores ∙ ap Some (sym live) in
     let ready : IsReady maps (begun made (c.in_ok-edit.edit ∷ []) log h 0) mid = c.in_ok-made.ensures.ready shown [] 0 tt maps log h begins given in
     let rest_mid : RestsAs found (maps 0) mid = laws.touched found (maps 0) (manifest_name number ∷ []) old mid ((Manifest number, (c.requires.number, refl), spare), tt) (c.make_manifest.ensures.touches.others shown) r in
-    then_standing site (maps 0) c.args.site.now c.make_manifest.new.site c.name_manifest.new.site (c.make_manifest.ensures.tells_nothing.told shown)
+    then_standing site (IsLeftAs found (maps 0)) c.args.site.now c.make_manifest.new.site c.name_manifest.new.site (c.make_manifest.ensures.tells_nothing.told shown)
     (spares_stand site laws.left found (maps 0) (manifest_name number ∷ []) c.args.site.now c.make_manifest.new.site ((Manifest number, (c.requires.number, refl), spare), tt) r (c.make_manifest.ensures.touches.cuts shown sure))
     (c.name_manifest.ensures.cuts shown (c.in_ok-made.ensures.certain shown) maps made (c.in_ok-edit.edit ∷ []) log h is ready begins.batches found rest_mid)
 

@@ -7,9 +7,9 @@ use Rattle.bl_records.specs.Writing.{MakesSynced}
 use Rattle.bl_folder.specs.Settled.{IsSettled}
 use Rattle.bl_out.proofs.QuietLemmas.{touches_join, touches_nothing}
 use Rattle.bl_open.specs.Steady.{Steady, accepted}
-use Rattle.bl_open.specs.SteadyCalls.{HasText, IsReady, KeepsAllBut, Rests, begun}
+use Rattle.bl_open.specs.SteadyCalls.{HasText, IsReady, KeepsAllBut, begun}
 use Rattle.bl_open.specs.SteadyCuts.{LeavesStanding}
-use Rattle.bl_open.specs.Found.{RestsAs}
+use Rattle.bl_open.specs.Found.{IsLeftAs, RestsAs}
 use Rattle.bl_open.proofs.MomentLemmas.{rest_start, then_standing}
 use Rattle.bl_open.proofs.NamingLemmas.{both_touched, current_apart, has_current, has_text, renames_so, temp_name, temp_touches}
 use Rattle.bl_open.proofs.OutcomeLemmas.{on_ok_of}
@@ -26,7 +26,7 @@ returns-in_err-temp-clause-touches g c =
 pub returns-in_err-temp-clause-cuts : goal.returns-in_err-temp-clause-cuts
 returns-in_err-temp-clause-cuts g c = λ shown sure maps made edits log h number ready none found r.
     let old = c.args.site.now in
-    rest_start g.S.Site (RestsAs found (maps 0)) (maps 0) (c.barriers_let_disks_rest.ensures.cuts found (maps 0)) old (g.met.S.Site.only_now shown old) (λ other. g.met.S.Site.only shown old other sure) r
+    rest_start g.S.Site (RestsAs found (maps 0)) (IsLeftAs found (maps 0)) (c.barriers_let_disks_rest.ensures.cuts found (maps 0)) old (g.met.S.Site.only_now shown old) (λ other. g.met.S.Site.only shown old other sure) r
 
 pub returns-in_err-temp-clause-settled : goal.returns-in_err-temp-clause-settled
 returns-in_err-temp-clause-settled g c = λ shown maps made edits log h number usable ready found r.
@@ -42,7 +42,7 @@ returns-in_err-current-clause-touches g c =
 pub returns-in_err-current-clause-cuts : goal.returns-in_err-current-clause-cuts
 returns-in_err-current-clause-cuts g c = λ shown sure maps made edits log h number ready none found r.
     let old = c.args.site.now in
-    rest_start g.S.Site (RestsAs found (maps 0)) (maps 0) (c.barriers_let_disks_rest.ensures.cuts found (maps 0)) old (g.met.S.Site.only_now shown old) (λ other. g.met.S.Site.only shown old other sure) r
+    rest_start g.S.Site (RestsAs found (maps 0)) (IsLeftAs found (maps 0)) (c.barriers_let_disks_rest.ensures.cuts found (maps 0)) old (g.met.S.Site.only_now shown old) (λ other. g.met.S.Site.only shown old other sure) r
 
 pub returns-in_err-current-clause-settled : goal.returns-in_err-current-clause-settled
 returns-in_err-current-clause-settled g c = λ shown maps made edits log h number usable ready found r.
@@ -58,7 +58,7 @@ returns-in_err-text-clause-touches g c =
 pub returns-in_err-text-clause-cuts : goal.returns-in_err-text-clause-cuts
 returns-in_err-text-clause-cuts g c = λ shown sure maps made edits log h number ready none found r.
     let old = c.args.site.now in
-    rest_start g.S.Site (RestsAs found (maps 0)) (maps 0) (c.barriers_let_disks_rest.ensures.cuts found (maps 0)) old (g.met.S.Site.only_now shown old) (λ other. g.met.S.Site.only shown old other sure) r
+    rest_start g.S.Site (RestsAs found (maps 0)) (IsLeftAs found (maps 0)) (c.barriers_let_disks_rest.ensures.cuts found (maps 0)) old (g.met.S.Site.only_now shown old) (λ other. g.met.S.Site.only shown old other sure) r
 
 pub returns-in_err-text-clause-settled : goal.returns-in_err-text-clause-settled
 returns-in_err-text-clause-settled g c = λ shown maps made edits log h number usable ready found r.
@@ -157,11 +157,11 @@ returns-clause-cuts g c = λ shown sure maps made edits log h is ready none foun
     let all : s.synced ≡ length s.own = omega arith in
     let spare = temp_name found number c.requires.number name named in
     let rest_mid : RestsAs found (maps 0) mid = laws.touched found (maps 0) (name ∷ []) old mid spare (c.write_temp.ensures.touches.others shown) r in
-    let at_mid : Rests (maps (accepted s)) mid = subst (λ (n : ℕ). Rests (maps n) mid) zero (laws.rests found (maps 0) mid rest_mid) in
-    then_standing site (maps 0) c.args.site.now c.write_temp.new.site c.rename_current.new.site (c.write_temp.ensures.tells_nothing.told shown)
+    let at_mid : RestsAs found (maps (accepted s)) mid = subst (λ (n : ℕ). RestsAs found (maps n) mid) zero rest_mid in
+    then_standing site (IsLeftAs found (maps 0)) c.args.site.now c.write_temp.new.site c.rename_current.new.site (c.write_temp.ensures.tells_nothing.told shown)
     (spares_stand site laws.left found (maps 0) (name ∷ []) c.args.site.now c.write_temp.new.site spare r (c.write_temp.ensures.touches.cuts shown sure))
-    (subst (λ (n : ℕ). LeavesOnly site.clock site.left_since c.write_temp.new.site c.rename_current.new.site (LeavesStanding (maps n) (site.told c.write_temp.new.site))) back
-    (c.rename_current.ensures.cuts shown (c.in_ok-write_temp.ensures.certain shown) maps s at_mid ready_mid has all))
+    (subst (λ (n : ℕ). LeavesOnly site.clock site.left_since c.write_temp.new.site c.rename_current.new.site (LeavesStanding (IsLeftAs found (maps n)) (site.told c.write_temp.new.site))) back
+    (c.rename_current.ensures.cuts shown (c.in_ok-write_temp.ensures.certain shown) maps s found at_mid ready_mid has all))
 
 pub returns-clause-settled : goal.returns-clause-settled
 returns-clause-settled g c = λ shown maps made edits log h is usable ready found r.

@@ -13,8 +13,8 @@ returns c =
       spares = spares_stay names one laws.spares;
       touched = spares_touched names c.live_parts_have_a_version.ensures laws.rest;
       files = new_files_stay names one laws.spares laws.logs;
-      left = spares_cut names c.live_parts_have_a_version.ensures c.other_files_do_not_matter.ensures.frame c.synced_disks_keep_their_map.ensures.cuts c.quiet_cuts_keep_needed.ensures.cuts c.quiet_cuts_keep_needed.ensures.keep;
-      cuts = cuts_of laws.resting;
+      left = spares_cut names one c.live_parts_have_a_version.ensures c.other_files_do_not_matter.ensures.frame c.synced_disks_keep_their_map.ensures.cuts c.quiet_cuts_keep_needed.ensures.cuts c.quiet_cuts_keep_needed.ensures.keep;
+      cuts = cuts_of laws.before;
       stay_settled = rests_are_settled c.synced_disks_keep_their_map.ensures.settled;
       numbers = new_numbers_are_spare;
     }

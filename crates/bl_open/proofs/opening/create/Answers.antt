@@ -1,19 +1,21 @@
-use Rattle.std.proofs.Common.{◌≡◌, ap, sym, subst}
+use Rattle.std.proofs.Common.{◌≡◌, None, ap, sym, subst}
 use Rattle.std.specs.FinMap.{empty}
 use Rattle.std.specs.Prelude.{IfOk, OnOk}
 use Rattle.bl_site.specs.Disk.{Folder, folder_of}
 use Rattle.bl_folder.specs.Settled.{IsSettled}
 use Rattle.bl_open.proofs.KeepLemmas.{kept_before, same_kept}
 use Rattle.bl_open.proofs.OpenedLemmas.{nothing_cuts, then_cuts}
+use Rattle.bl_open.proofs.MomentLemmas.{none_synced}
 use Rattle.bl_open.proofs.ReadLemmas.{reads_make_nothing}
+use Rattle.bl_open.specs.Found.{IsLeftAs}
 use Rattle.bl_open.specs.Recovering.{IsFullFresh, TakesFresh}
 use Rattle.bl_open.proofs.opening.create.Goals as goal
 
 pub returns-in_err-files-clause-cuts : goal.returns-in_err-files-clause-cuts
 returns-in_err-files-clause-cuts g c = λ shown settled.
     let laws = g.met.S.Site in
-    nothing_cuts g.S.Site shown (λ site. laws.only_now shown site) (λ site. laws.counts_now shown site) (λ site other sure. laws.only shown site other sure) empty c.args.site.now c.list_files.new.site
-    (reads_make_nothing g.S.Site shown (λ site. laws.only_now shown site) (λ site. laws.counts_now shown site) (λ site other sure. laws.only shown site other sure) c.args.site.now c.list_files.new.site c.list_files.ensures.quiet)
+    nothing_cuts g.S.Site shown (λ site. laws.only_now shown site) (λ site. laws.counts_now shown site) (λ site other sure. laws.only shown site other sure) (λ site. laws.remnant shown site) (IsLeftAs None empty) c.args.site.now c.list_files.new.site
+    (reads_make_nothing g.S.Site shown (λ site. laws.only_now shown site) (λ site. laws.counts_now shown site) (λ site other sure. laws.only shown site other sure) (λ site. laws.remnant shown site) c.args.site.now c.list_files.new.site c.list_files.ensures.quiet)
 
 pub returns-in_err-files-clause-settled : goal.returns-in_err-files-clause-settled
 returns-in_err-files-clause-settled g c = λ shown settled. subst IsSettled (sym (c.list_files.ensures.quiet.stays shown).same) settled
@@ -29,8 +31,9 @@ returns-clause-opened g c = λ shown maps first. c.create_among.ensures.opened s
 pub returns-clause-cuts : goal.returns-clause-cuts
 returns-clause-cuts g c = λ shown settled.
     let laws = g.met.S.Site in
-    then_cuts g.S.Site shown (λ site. laws.only_now shown site) (λ site. laws.counts_now shown site) (λ site other sure. laws.only shown site other sure) empty c.args.site.now c.list_files.new.site c.create_among.new.site
-    (reads_make_nothing g.S.Site shown (λ site. laws.only_now shown site) (λ site. laws.counts_now shown site) (λ site other sure. laws.only shown site other sure) c.args.site.now c.list_files.new.site c.list_files.ensures.quiet)
+    then_cuts g.S.Site shown (λ site. laws.only_now shown site) (λ site. laws.counts_now shown site) (λ site other sure. laws.only shown site other sure) (λ site. laws.remnant shown site) (IsLeftAs None empty) c.args.site.now c.list_files.new.site c.create_among.new.site
+    (none_synced (g.S.Site.disk c.args.site.now) (g.S.Site.disk c.list_files.new.site) (c.list_files.ensures.quiet.stays shown).same)
+    (reads_make_nothing g.S.Site shown (λ site. laws.only_now shown site) (λ site. laws.counts_now shown site) (λ site other sure. laws.only shown site other sure) (λ site. laws.remnant shown site) c.args.site.now c.list_files.new.site c.list_files.ensures.quiet)
     (ap folder_of (c.list_files.ensures.quiet.stays shown).same)
     (c.create_among.ensures.cuts shown (subst IsSettled (sym (c.list_files.ensures.quiet.stays shown).same) settled))
 

@@ -12,7 +12,8 @@ use Rattle.bl_folder.specs.Flushes.{IsBelow}
 use Rattle.bl_open.proofs.AddLemmas.{nothing_added}
 use Rattle.bl_open.proofs.FullLemmas.{fresh_enough, on_ok}
 use Rattle.bl_open.proofs.KeepLemmas.{begun_kept}
-use Rattle.bl_open.proofs.MomentLemmas.{all_behind}
+use Rattle.bl_open.proofs.MomentLemmas.{all_or}
+use Rattle.bl_open.specs.Found.{IsLeftAs}
 use Rattle.bl_open.proofs.OpenedLemmas.{each_and, each_ok, new_or_found, nothing_passes}
 use Rattle.bl_open.proofs.StartingLemmas.{holds_fresh, starts_fresh}
 use Rattle.bl_open.specs.Beginning.{AddsFlush, IsNumbered, IsWithin, first_file}
@@ -63,7 +64,7 @@ returns-clause-cuts g c = λ shown settled.
     let first = c.first_number.ensures.first (folder_of disk) nothing is (nothing_passes (folder_of disk)) (c.requires.listed shown) (inl some) in
     let h : Holding = no_holding (record { log_number = l.first; next_file = l.first; last_sequence = 0; options = l.options }) in
     let s = starts_fresh c.barriers_let_disks_rest.ensures.fresh c.stores_begin.ensures.fresh c.memories_tell_what_was_inserted.ensures.memory c.batches_are_held.ensures.none disk l settled (c.requires.fresh shown) is first c.empty-version.ensures c.start.ensures refl in
-    record { first = first_file l.memory l.first; is_new = new_or_found g.S.Site (folder_of disk) nothing 1 l.first l.memory c.args.site.now c.begin.new.site (g.met.S.Site.only_now shown c.args.site.now) first c.begin.ensures.unmade; sides = c.begin.ensures.sides shown None h empty s; behind = λ sure. all_behind g.S.Site empty c.args.site.now c.begin.new.site (c.begin.ensures.cuts shown sure None h empty s) }
+    record { first = first_file l.memory l.first; is_new = new_or_found g.S.Site (folder_of disk) nothing 1 l.first l.memory c.args.site.now c.begin.new.site (g.met.S.Site.only_now shown c.args.site.now) first c.begin.ensures.unmade; sides = c.begin.ensures.sides shown None h empty s; finds = λ sure. all_or g.S.Site (IsLeftAs None empty) c.args.site.now c.begin.new.site (c.begin.ensures.cuts shown sure None h empty s) }
 
 pub returns-clause-settled : goal.returns-clause-settled
 returns-clause-settled g c = λ shown settled.

@@ -1,4 +1,4 @@
-use Rattle.std.proofs.Common.{◌≡◌, ◌∙◌, List, [], None, inl, Err, ap, sym, subst}
+use Rattle.std.proofs.Common.{◌≡◌, ◌∙◌, List, [], None, inl, inr, ⊎_elim, Err, ap, sym, subst}
 use Rattle.std.proofs.lemmas.Result.{err_from_is_err_and}
 use Rattle.std.specs.FinMap.{empty}
 use Rattle.std.specs.Prelude.{IfErr, IfOk, OnOk}
@@ -12,8 +12,11 @@ use Rattle.bl_folder.specs.Stands.{IsSoundFolder, Stands}
 use Rattle.bl_open.proofs.AnswerLemmas.{reading_not_full, reading_refused}
 use Rattle.bl_open.proofs.FullLemmas.{fresh_only, on_ok_too}
 use Rattle.bl_open.proofs.KeepLemmas.{kept_before, same_kept}
-use Rattle.bl_open.proofs.OpenedLemmas.{answers_before, cause_not_full, cause_silent, each_ok, fresh_is_empty, no_telling, none_if, nothing_cuts, silent_same, then_cuts}
+use Rattle.bl_open.proofs.OpenedLemmas.{answers_before, cause_not_full, cause_silent, cuts_so, each_ok, fresh_is_empty, no_telling, none_if, nothing_cuts, silent_same, then_cuts}
+use Rattle.bl_open.proofs.MomentLemmas.{none_synced}
 use Rattle.bl_open.proofs.ReadLemmas.{reads_make_nothing, then_reads}
+use Rattle.bl_open.specs.Found.{IsLeftAs, IsLeftStanding}
+use Rattle.bl_open.specs.SteadyCuts.{IsLeftFor}
 use Rattle.bl_open.proofs.RefusalLemmas.{due_of, fresh_not_refused, none_refused}
 use Rattle.bl_open.specs.Answers.{IsReading}
 use Rattle.bl_names.specs.declared.name.FileName.{FileName}
@@ -31,8 +34,8 @@ returns-in_err-files-clause-cuts g c = λ shown settled m stands.
     let site = g.S.Site in
     let s0 = c.args.site.now in
     let s1 = c.list_files.new.site in
-    let n1 = reads_make_nothing site shown (λ x. laws.only_now shown x) (λ x. laws.counts_now shown x) (λ x other sure. laws.only shown x other sure) s0 s1 c.list_files.ensures.quiet in
-    nothing_cuts site shown (λ x. laws.only_now shown x) (λ x. laws.counts_now shown x) (λ x other sure. laws.only shown x other sure) m s0 s1 n1
+    let n1 = reads_make_nothing site shown (λ x. laws.only_now shown x) (λ x. laws.counts_now shown x) (λ x other sure. laws.only shown x other sure) (λ x. laws.remnant shown x) s0 s1 c.list_files.ensures.quiet in
+    nothing_cuts site shown (λ x. laws.only_now shown x) (λ x. laws.counts_now shown x) (λ x other sure. laws.only shown x other sure) (λ x. laws.remnant shown x) (IsLeftStanding (folder_of (site.disk s0)) m) s0 s1 n1
 
 pub returns-in_err-files-clause-settled : goal.returns-in_err-files-clause-settled
 returns-in_err-files-clause-settled g c = λ shown settled sound no_chance. subst IsSettled (sym (c.list_files.ensures.quiet.stays shown).same) settled
@@ -79,9 +82,10 @@ returns-then-has_file-clause-cuts g c = λ shown settled m stands.
     let s1 = c.list_files.new.site in
     let stays1 : site.disk s1 ≡ site.disk s0 = (c.list_files.ensures.quiet.stays shown).same in
     let same1 : folder_of (site.disk s1) ≡ folder_of (site.disk s0) = ap folder_of stays1 in
-    let n1 = reads_make_nothing site shown (λ x. laws.only_now shown x) (λ x. laws.counts_now shown x) (λ x other sure. laws.only shown x other sure) s0 s1 c.list_files.ensures.quiet in
-    then_cuts site shown (λ x. laws.only_now shown x) (λ x. laws.counts_now shown x) (λ x other sure. laws.only shown x other sure) m s0 s1 c.recover_live.new.site n1 same1
-    (c.recover_live.ensures.cuts shown (subst IsSettled (sym stays1) settled) m (subst (λ (f : Folder). Stands f m) (sym same1) stands))
+    let n1 = reads_make_nothing site shown (λ x. laws.only_now shown x) (λ x. laws.counts_now shown x) (λ x other sure. laws.only shown x other sure) (λ x. laws.remnant shown x) s0 s1 c.list_files.ensures.quiet in
+    cuts_so site (IsLeftFor m) (IsLeftStanding (folder_of (site.disk s0)) m) s0 c.recover_live.new.site (λ x left. inr left)
+    (then_cuts site shown (λ x. laws.only_now shown x) (λ x. laws.counts_now shown x) (λ x other sure. laws.only shown x other sure) (λ x. laws.remnant shown x) (IsLeftFor m) s0 s1 c.recover_live.new.site (none_synced (site.disk s0) (site.disk s1) stays1) n1 same1
+    (c.recover_live.ensures.cuts shown (subst IsSettled (sym stays1) settled) m (subst (λ (f : Folder). Stands f m) (sym same1) stands)))
 
 pub returns-then-has_file-clause-settled : goal.returns-then-has_file-clause-settled
 returns-then-has_file-clause-settled g c = λ shown settled sound no_chance.
@@ -119,9 +123,9 @@ returns-in_err-check_fresh-clause-cuts g c = λ shown settled m stands.
     let site = g.S.Site in
     let s0 = c.args.site.now in
     let s1 = c.list_files.new.site in
-    let n1 = reads_make_nothing site shown (λ x. laws.only_now shown x) (λ x. laws.counts_now shown x) (λ x other sure. laws.only shown x other sure) s0 s1 c.list_files.ensures.quiet in
-    let n2 = then_reads site shown (λ x. laws.only_now shown x) (λ x. laws.counts_now shown x) (λ x other sure. laws.only shown x other sure) s0 s1 c.check_fresh.new.site n1 c.check_fresh.ensures.quiet in
-    nothing_cuts site shown (λ x. laws.only_now shown x) (λ x. laws.counts_now shown x) (λ x other sure. laws.only shown x other sure) m s0 c.check_fresh.new.site n2
+    let n1 = reads_make_nothing site shown (λ x. laws.only_now shown x) (λ x. laws.counts_now shown x) (λ x other sure. laws.only shown x other sure) (λ x. laws.remnant shown x) s0 s1 c.list_files.ensures.quiet in
+    let n2 = then_reads site shown (λ x. laws.only_now shown x) (λ x. laws.counts_now shown x) (λ x other sure. laws.only shown x other sure) (λ x. laws.remnant shown x) s0 s1 c.check_fresh.new.site (none_synced (site.disk s0) (site.disk s1) (c.list_files.ensures.quiet.stays shown).same) n1 c.check_fresh.ensures.quiet in
+    nothing_cuts site shown (λ x. laws.only_now shown x) (λ x. laws.counts_now shown x) (λ x other sure. laws.only shown x other sure) (λ x. laws.remnant shown x) (IsLeftStanding (folder_of (site.disk s0)) m) s0 c.check_fresh.new.site n2
 
 pub returns-in_err-check_fresh-clause-settled : goal.returns-in_err-check_fresh-clause-settled
 returns-in_err-check_fresh-clause-settled g c = λ shown settled sound no_chance.
@@ -201,10 +205,12 @@ returns-clause-cuts g c = λ shown settled m stands.
     let stays2 : site.disk c.check_fresh.new.site ≡ site.disk s0 = (c.check_fresh.ensures.quiet.stays shown).same ∙ stays1 in
     let same2 : folder_of (site.disk c.check_fresh.new.site) ≡ folder_of (site.disk s0) = ap folder_of stays2 in
     let fresh : IsFresh (folder_of (site.disk s0)) = subst IsFresh same1 (c.in_ok-check_fresh.ensures.fresh shown) in
-    let n1 = reads_make_nothing site shown (λ x. laws.only_now shown x) (λ x. laws.counts_now shown x) (λ x other sure. laws.only shown x other sure) s0 s1 c.list_files.ensures.quiet in
-    let n2 = then_reads site shown (λ x. laws.only_now shown x) (λ x. laws.counts_now shown x) (λ x other sure. laws.only shown x other sure) s0 s1 c.check_fresh.new.site n1 c.check_fresh.ensures.quiet in
-    subst (λ (x : Map). CutsAtBarrier site x s0 c.create_among.new.site) (sym (fresh_is_empty (folder_of (site.disk s0)) m fresh stands))
-    (then_cuts site shown (λ x. laws.only_now shown x) (λ x. laws.counts_now shown x) (λ x other sure. laws.only shown x other sure) empty s0 c.check_fresh.new.site c.create_among.new.site n2 same2 (c.create_among.ensures.cuts shown (subst IsSettled (sym stays2) settled)))
+    let n1 = reads_make_nothing site shown (λ x. laws.only_now shown x) (λ x. laws.counts_now shown x) (λ x other sure. laws.only shown x other sure) (λ x. laws.remnant shown x) s0 s1 c.list_files.ensures.quiet in
+    let n2 = then_reads site shown (λ x. laws.only_now shown x) (λ x. laws.counts_now shown x) (λ x other sure. laws.only shown x other sure) (λ x. laws.remnant shown x) s0 s1 c.check_fresh.new.site (none_synced (site.disk s0) (site.disk s1) (c.list_files.ensures.quiet.stays shown).same) n1 c.check_fresh.ensures.quiet in
+    subst (λ (x : Map). CutsAtBarrier site (IsLeftStanding (folder_of (site.disk s0)) x) s0 c.create_among.new.site) (sym (fresh_is_empty (folder_of (site.disk s0)) m fresh stands))
+    (cuts_so site (IsLeftAs None empty) (IsLeftStanding (folder_of (site.disk s0)) empty) s0 c.create_among.new.site (λ x. ⊎_elim (λ f. inl (fresh, f.0, f.1)) (λ left. inr left))
+    (then_cuts site shown (λ x. laws.only_now shown x) (λ x. laws.counts_now shown x) (λ x other sure. laws.only shown x other sure) (λ x. laws.remnant shown x) (IsLeftAs None empty) s0 c.check_fresh.new.site c.create_among.new.site
+    (none_synced (site.disk s0) (site.disk c.check_fresh.new.site) stays2) n2 same2 (c.create_among.ensures.cuts shown (subst IsSettled (sym stays2) settled))))
 
 pub returns-clause-settled : goal.returns-clause-settled
 returns-clause-settled g c = λ shown settled sound no_chance.

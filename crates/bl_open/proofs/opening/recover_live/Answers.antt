@@ -17,13 +17,14 @@ use Rattle.bl_open.proofs.AnswerLemmas.{loading_not_full, missing_not_full, miss
 use Rattle.bl_open.specs.Keeping.{KeepsAllButLogs}
 use Rattle.bl_open.proofs.FullLemmas.{full_loaded, on_ok, taken_enough}
 use Rattle.bl_open.proofs.KeepLemmas.{begun_kept, failed_kept, same_kept, synced_kept}
-use Rattle.bl_open.proofs.MomentLemmas.{all_behind}
+use Rattle.bl_open.proofs.MomentLemmas.{all_or, none_synced, some_then}
 use Rattle.bl_open.proofs.OpenedLemmas.{cause_not_full, cause_silent, each_and, each_ok, new_or_found, no_telling, nothing_cuts, silent_same, some_in, the_logs, then_cuts}
 use Rattle.bl_open.proofs.ReadLemmas.{reads_make_nothing, then_nothing, then_reads}
 use Rattle.bl_open.proofs.RefusalLemmas.{due_of, loaded_not_refused, none_refused}
 use Rattle.bl_open.proofs.StartingLemmas.{held_as_synced, live_stands, starts_live}
 use Rattle.bl_open.specs.Answers.{IsLoading, IsReading}
-use Rattle.bl_open.specs.Barrier.{AreTheLogs, MakesNothing}
+use Rattle.bl_open.specs.Barrier.{AreTheLogs, MakesNothing, SyncsSome}
+use Rattle.bl_open.specs.SteadyCuts.{IsLeftFor}
 use Rattle.bl_open.specs.Beginning.{AddsFlush, IsNumbered, IsOpened, IsOpenedAsSynced, IsWithin, first_file}
 use Rattle.bl_open.specs.Synced.{AreFilesBelow, as_synced}
 use Rattle.bl_open.specs.Damage.{NamesManifest}
@@ -39,8 +40,8 @@ returns-in_err-manifest-clause-cuts g c = λ shown settled m stands.
     let site = g.S.Site in
     let s0 = c.args.site.now in
     let s1 = c.read_current.new.site in
-    let n1 = reads_make_nothing site shown (λ x. laws.only_now shown x) (λ x. laws.counts_now shown x) (λ x other sure. laws.only shown x other sure) s0 s1 c.read_current.ensures.quiet in
-    nothing_cuts site shown (λ x. laws.only_now shown x) (λ x. laws.counts_now shown x) (λ x other sure. laws.only shown x other sure) m s0 s1 n1
+    let n1 = reads_make_nothing site shown (λ x. laws.only_now shown x) (λ x. laws.counts_now shown x) (λ x other sure. laws.only shown x other sure) (λ x. laws.remnant shown x) s0 s1 c.read_current.ensures.quiet in
+    nothing_cuts site shown (λ x. laws.only_now shown x) (λ x. laws.counts_now shown x) (λ x other sure. laws.only shown x other sure) (λ x. laws.remnant shown x) (IsLeftFor m) s0 s1 n1
 
 pub returns-in_err-manifest-clause-settled : goal.returns-in_err-manifest-clause-settled
 returns-in_err-manifest-clause-settled g c = λ shown settled sound no_chance. subst IsSettled (sym (c.read_current.ensures.quiet.stays shown).same) settled
@@ -51,8 +52,8 @@ returns-in_err-check_manifest-clause-cuts g c = λ shown settled m stands.
     let site = g.S.Site in
     let s0 = c.args.site.now in
     let s1 = c.read_current.new.site in
-    let n1 = reads_make_nothing site shown (λ x. laws.only_now shown x) (λ x. laws.counts_now shown x) (λ x other sure. laws.only shown x other sure) s0 s1 c.read_current.ensures.quiet in
-    nothing_cuts site shown (λ x. laws.only_now shown x) (λ x. laws.counts_now shown x) (λ x other sure. laws.only shown x other sure) m s0 s1 n1
+    let n1 = reads_make_nothing site shown (λ x. laws.only_now shown x) (λ x. laws.counts_now shown x) (λ x other sure. laws.only shown x other sure) (λ x. laws.remnant shown x) s0 s1 c.read_current.ensures.quiet in
+    nothing_cuts site shown (λ x. laws.only_now shown x) (λ x. laws.counts_now shown x) (λ x other sure. laws.only shown x other sure) (λ x. laws.remnant shown x) (IsLeftFor m) s0 s1 n1
 
 pub returns-in_err-check_manifest-clause-settled : goal.returns-in_err-check_manifest-clause-settled
 returns-in_err-check_manifest-clause-settled g c = λ shown settled sound no_chance. subst IsSettled (sym (c.read_current.ensures.quiet.stays shown).same) settled
@@ -63,8 +64,8 @@ returns-in_err-logs-clause-cuts g c = λ shown settled m stands.
     let site = g.S.Site in
     let s0 = c.args.site.now in
     let s1 = c.read_current.new.site in
-    let n1 = reads_make_nothing site shown (λ x. laws.only_now shown x) (λ x. laws.counts_now shown x) (λ x other sure. laws.only shown x other sure) s0 s1 c.read_current.ensures.quiet in
-    nothing_cuts site shown (λ x. laws.only_now shown x) (λ x. laws.counts_now shown x) (λ x other sure. laws.only shown x other sure) m s0 s1 n1
+    let n1 = reads_make_nothing site shown (λ x. laws.only_now shown x) (λ x. laws.counts_now shown x) (λ x other sure. laws.only shown x other sure) (λ x. laws.remnant shown x) s0 s1 c.read_current.ensures.quiet in
+    nothing_cuts site shown (λ x. laws.only_now shown x) (λ x. laws.counts_now shown x) (λ x other sure. laws.only shown x other sure) (λ x. laws.remnant shown x) (IsLeftFor m) s0 s1 n1
 
 pub returns-in_err-logs-clause-settled : goal.returns-in_err-logs-clause-settled
 returns-in_err-logs-clause-settled g c = λ shown settled sound no_chance. subst IsSettled (sym (c.read_current.ensures.quiet.stays shown).same) settled
@@ -131,12 +132,12 @@ returns-in_err-sync_found-clause-cuts g c = λ shown settled m stands.
     let site = g.S.Site in
     let s0 = c.args.site.now in
     let s1 = c.read_current.new.site in
-    let n1 = reads_make_nothing site shown (λ x. laws.only_now shown x) (λ x. laws.counts_now shown x) (λ x other sure. laws.only shown x other sure) s0 s1 c.read_current.ensures.quiet in
+    let n1 = reads_make_nothing site shown (λ x. laws.only_now shown x) (λ x. laws.counts_now shown x) (λ x other sure. laws.only shown x other sure) (λ x. laws.remnant shown x) s0 s1 c.read_current.ensures.quiet in
     let s2 = c.sync_found.new.site in
     let e2 = c.sync_found.ensures in
-    let n2 : MakesNothing site s1 s2 = record { told = e2.tells_nothing.told shown; found = e2.before shown; no_file = e2.no_file shown; certain = e2.certain shown; no_new = e2.no_new shown } in
-    let n12 = then_nothing site shown (λ x. laws.only_now shown x) (λ x. laws.counts_now shown x) (λ x other sure. laws.only shown x other sure) s0 s1 s2 n1 n2 in
-    nothing_cuts site shown (λ x. laws.only_now shown x) (λ x. laws.counts_now shown x) (λ x other sure. laws.only shown x other sure) m s0 s2 n12
+    let n2 : MakesNothing site s1 s2 = record { told = e2.tells_nothing.told shown; found = e2.before shown; certain = e2.certain shown; finds = e2.finds shown } in
+    let n12 = then_nothing site shown (λ x. laws.only_now shown x) (λ x. laws.counts_now shown x) (λ x other sure. laws.only shown x other sure) (λ x. laws.remnant shown x) s0 s1 s2 (none_synced (site.disk s0) (site.disk s1) (c.read_current.ensures.quiet.stays shown).same) n1 n2 in
+    nothing_cuts site shown (λ x. laws.only_now shown x) (λ x. laws.counts_now shown x) (λ x other sure. laws.only shown x other sure) (λ x. laws.remnant shown x) (IsLeftFor m) s0 s2 n12
 
 pub returns-in_err-sync_found-clause-settled : goal.returns-in_err-sync_found-clause-settled
 returns-in_err-sync_found-clause-settled g c = λ shown settled sound no_chance. c.sync_found.ensures.settled shown (subst IsSettled (sym (c.read_current.ensures.quiet.stays shown).same) settled) no_chance
@@ -192,14 +193,15 @@ returns-in_err-loaded-clause-cuts g c = λ shown settled m stands.
     let site = g.S.Site in
     let s0 = c.args.site.now in
     let s1 = c.read_current.new.site in
-    let n1 = reads_make_nothing site shown (λ x. laws.only_now shown x) (λ x. laws.counts_now shown x) (λ x other sure. laws.only shown x other sure) s0 s1 c.read_current.ensures.quiet in
+    let n1 = reads_make_nothing site shown (λ x. laws.only_now shown x) (λ x. laws.counts_now shown x) (λ x other sure. laws.only shown x other sure) (λ x. laws.remnant shown x) s0 s1 c.read_current.ensures.quiet in
     let s2 = c.sync_found.new.site in
     let e2 = c.sync_found.ensures in
-    let n2 : MakesNothing site s1 s2 = record { told = e2.tells_nothing.told shown; found = e2.before shown; no_file = e2.no_file shown; certain = e2.certain shown; no_new = e2.no_new shown } in
-    let n12 = then_nothing site shown (λ x. laws.only_now shown x) (λ x. laws.counts_now shown x) (λ x other sure. laws.only shown x other sure) s0 s1 s2 n1 n2 in
+    let n2 : MakesNothing site s1 s2 = record { told = e2.tells_nothing.told shown; found = e2.before shown; certain = e2.certain shown; finds = e2.finds shown } in
+    let n12 = then_nothing site shown (λ x. laws.only_now shown x) (λ x. laws.counts_now shown x) (λ x other sure. laws.only shown x other sure) (λ x. laws.remnant shown x) s0 s1 s2 (none_synced (site.disk s0) (site.disk s1) (c.read_current.ensures.quiet.stays shown).same) n1 n2 in
     let s3 = c.load.new.site in
-    let n13 = then_reads site shown (λ x. laws.only_now shown x) (λ x. laws.counts_now shown x) (λ x other sure. laws.only shown x other sure) s0 s2 s3 n12 c.load.ensures.quiet in
-    nothing_cuts site shown (λ x. laws.only_now shown x) (λ x. laws.counts_now shown x) (λ x other sure. laws.only shown x other sure) m s0 s3 n13
+    let some2 : SyncsSome (site.disk s0) (site.disk s2) = some_then (site.disk s0) (site.disk s1) (site.disk s2) (none_synced (site.disk s0) (site.disk s1) (c.read_current.ensures.quiet.stays shown).same) (c.in_ok-sync_found.ensures.some shown) in
+    let n13 = then_reads site shown (λ x. laws.only_now shown x) (λ x. laws.counts_now shown x) (λ x other sure. laws.only shown x other sure) (λ x. laws.remnant shown x) s0 s2 s3 some2 n12 c.load.ensures.quiet in
+    nothing_cuts site shown (λ x. laws.only_now shown x) (λ x. laws.counts_now shown x) (λ x other sure. laws.only shown x other sure) (λ x. laws.remnant shown x) (IsLeftFor m) s0 s3 n13
 
 pub returns-in_err-loaded-clause-settled : goal.returns-in_err-loaded-clause-settled
 returns-in_err-loaded-clause-settled g c = λ shown settled sound no_chance.
@@ -311,14 +313,15 @@ returns-clause-cuts g c = λ shown settled m stands.
     let rests : RestsAs (Some (c.in_ok-manifest.manifest, loaded.live)) m (site.disk s3) = subst (RestsAs (Some (c.in_ok-manifest.manifest, loaded.live)) m) (sym read) rests2 in
     let s = starts_live c.folders_stand_for_one_map.ensures.live c.folders_stand_for_one_map.ensures.batches c.held_are_whole.ensures c.memories_tell_what_was_inserted.ensures.memory
     (site.disk s3) c.in_ok-manifest.manifest c.args.asked.now l m loaded live rests in
-    let n1 = reads_make_nothing site shown (λ x. laws.only_now shown x) (λ x. laws.counts_now shown x) (λ x other sure. laws.only shown x other sure) s0 s1 c.read_current.ensures.quiet in
+    let n1 = reads_make_nothing site shown (λ x. laws.only_now shown x) (λ x. laws.counts_now shown x) (λ x other sure. laws.only shown x other sure) (λ x. laws.remnant shown x) s0 s1 c.read_current.ensures.quiet in
     let s2 = c.sync_found.new.site in
     let e2 = c.sync_found.ensures in
-    let n2 : MakesNothing site s1 s2 = record { told = e2.tells_nothing.told shown; found = e2.before shown; no_file = e2.no_file shown; certain = e2.certain shown; no_new = e2.no_new shown } in
-    let n12 = then_nothing site shown (λ x. laws.only_now shown x) (λ x. laws.counts_now shown x) (λ x other sure. laws.only shown x other sure) s0 s1 s2 n1 n2 in
-    let n13 = then_reads site shown (λ x. laws.only_now shown x) (λ x. laws.counts_now shown x) (λ x other sure. laws.only shown x other sure) s0 s2 s3 n12 c.load.ensures.quiet in
-    then_cuts site shown (λ x. laws.only_now shown x) (λ x. laws.counts_now shown x) (λ x other sure. laws.only shown x other sure) m s0 s3 c.begin.new.site n13 same3
-    (record { first = first_file l.memory l.first; is_new = new_or_found site (folder_of (site.disk s3)) loaded.live.version loaded.live.standing.next_file l.first l.memory s3 c.begin.new.site (laws.only_now shown s3) loaded.first c.begin.ensures.unmade; sides = c.begin.ensures.sides shown (Some (c.in_ok-manifest.manifest, loaded.live)) live.holding m s; behind = λ sure. all_behind site m s3 c.begin.new.site (c.begin.ensures.cuts shown sure (Some (c.in_ok-manifest.manifest, loaded.live)) live.holding m s) })
+    let n2 : MakesNothing site s1 s2 = record { told = e2.tells_nothing.told shown; found = e2.before shown; certain = e2.certain shown; finds = e2.finds shown } in
+    let n12 = then_nothing site shown (λ x. laws.only_now shown x) (λ x. laws.counts_now shown x) (λ x other sure. laws.only shown x other sure) (λ x. laws.remnant shown x) s0 s1 s2 (none_synced (site.disk s0) (site.disk s1) (c.read_current.ensures.quiet.stays shown).same) n1 n2 in
+    let some2 : SyncsSome (site.disk s0) (site.disk s2) = some_then (site.disk s0) (site.disk s1) (site.disk s2) (none_synced (site.disk s0) (site.disk s1) (c.read_current.ensures.quiet.stays shown).same) (c.in_ok-sync_found.ensures.some shown) in
+    let n13 = then_reads site shown (λ x. laws.only_now shown x) (λ x. laws.counts_now shown x) (λ x other sure. laws.only shown x other sure) (λ x. laws.remnant shown x) s0 s2 s3 some2 n12 c.load.ensures.quiet in
+    then_cuts site shown (λ x. laws.only_now shown x) (λ x. laws.counts_now shown x) (λ x other sure. laws.only shown x other sure) (λ x. laws.remnant shown x) (IsLeftFor m) s0 s3 c.begin.new.site (some_then (site.disk s0) (site.disk s2) (site.disk s3) some2 (none_synced (site.disk s2) (site.disk s3) read)) n13 same3
+    (record { first = first_file l.memory l.first; is_new = new_or_found site (folder_of (site.disk s3)) loaded.live.version loaded.live.standing.next_file l.first l.memory s3 c.begin.new.site (laws.only_now shown s3) loaded.first c.begin.ensures.unmade; sides = c.begin.ensures.sides shown (Some (c.in_ok-manifest.manifest, loaded.live)) live.holding m s; finds = λ sure. all_or site (IsLeftFor m) s3 c.begin.new.site (c.begin.ensures.cuts shown sure (Some (c.in_ok-manifest.manifest, loaded.live)) live.holding m s) })
 
 pub returns-clause-settled : goal.returns-clause-settled
 returns-clause-settled g c = λ shown settled sound no_chance.

@@ -13,7 +13,7 @@ returns c =
     let rest = quiet_keeps_rest frame in
     let fresh = c.fresh_folders_stand_for_the_empty_map.ensures.stays in
     let spares = spares_keep_rest names versions rest fresh in
-    let before = cuts_of_rest c.synced_disks_keep_their_map.ensures.cuts in
+    let before = cuts_of_rest c.folders_stand_for_one_map.ensures.live c.synced_disks_keep_their_map.ensures.cuts in
     record {
       rest = rest;
       before = before;

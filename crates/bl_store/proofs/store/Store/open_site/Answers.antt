@@ -1,7 +1,8 @@
-use Rattle.std.proofs.Common.{◌≡◌, ◌∙◌, ap, refl, sym, subst, Err}
+use Rattle.std.proofs.Common.{◌≡◌, ◌∙◌, [], ap, refl, sym, subst, Err}
 use Rattle.bl_site.specs.Disk.{folder_of}
 use Rattle.bl_open.specs.Beginning.{IsInPlace, IsOpened}
 use Rattle.bl_open.specs.Recovering.{TakesOver}
+use Rattle.bl_open.specs.Synced.{AreFilesBelow, as_synced}
 use Rattle.bl_open.specs.declared.begin.Opened.{Opened}
 use Rattle.bl_open.specs.declared.error.OpenErr.TheVariants as opening
 use Rattle.bl_store.specs.declared.error.StoreErr.TheVariants as store
@@ -21,10 +22,22 @@ returns-in-Ok-clause-there g c = λ shown.
 pub returns-in-Ok-clause-stands : goal.returns-in-Ok-clause-stands
 returns-in-Ok-clause-stands g c = λ shown settled m stands.
     let disk = g.S.Site.disk c.recover.new.site in
-    opened_stands m c.begin.result disk c.begin.ensures.begun
+    opened_stands [] m c.begin.result disk c.begin.ensures.begun
     (subst (λ (o : Opened). IsInPlace o disk) (sym c.begin.ensures.opened) (c.in-Ok.ensures.in_place shown))
     (subst (λ (o : Opened). IsOpened (maps_of (begun_with m)) o disk) (sym c.begin.ensures.opened) (c.in-Ok.ensures.opened shown settled m stands (maps_of (begun_with m)) refl))
-    c.logs_are_read.ensures c.batches_join.ensures.counted c.batches_are_held.ensures.none
+    c.logs_are_read.ensures c.batches_join.ensures.counted c.batches_are_held.ensures.none tt
+
+pub returns-in-Ok-clause-begins : goal.returns-in-Ok-clause-begins
+returns-in-Ok-clause-begins g c = λ shown m stands.
+    let disk = g.S.Site.disk c.recover.new.site in
+    let o = c.in-Ok.ensures.begins shown m stands (maps_of (begun_with m)) refl in (
+      o.names,
+      opened_stands o.names m c.begin.result disk c.begin.ensures.begun
+          (subst (λ (o : Opened). IsInPlace o disk) (sym c.begin.ensures.opened) (c.in-Ok.ensures.in_place shown))
+          (subst (λ (p : Opened). IsOpened (maps_of (begun_with m)) p (as_synced o.names disk)) (sym c.begin.ensures.opened) o.opened)
+          c.logs_are_read.ensures c.batches_join.ensures.counted c.batches_are_held.ensures.none
+          (subst (λ (p : Opened). AreFilesBelow p.manifest.number o.names) (sym c.begin.ensures.opened) o.before),
+    )
 
 pub returns-in-Ok-clause-keeps : goal.returns-in-Ok-clause-keeps
 returns-in-Ok-clause-keeps g c = λ shown. let k = c.in-Ok.ensures.keeps shown in record { files = k.files; reads = k.reads }
