@@ -9,5 +9,6 @@ pub mod ScanLemmas
 pub mod SeenLemmas
 pub mod SoundLemmas
 pub mod TableLemmas
+pub mod TurnLemmas
 pub mod ToldLemmas
 pub mod ValueLemmas

@@ -4,3 +4,4 @@ pub mod Reading
 pub mod Scan
 pub mod Scanning
 pub mod Sound
+pub mod Turns

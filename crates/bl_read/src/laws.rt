@@ -2,6 +2,7 @@
 
 ghost use Rattle.bl_read.specs.Laws.{GivenAreWhole, GivenMapsAreOne};
 ghost use Rattle.bl_read.specs.Sound.{SoundFoldersGiveTheirMap};
+ghost use Rattle.bl_read.specs.Turns.{PairsAreToldInTurn};
 
 use bl_cache::{named_are_read, runs_are_tables};
 use bl_folder::held_are_whole;
@@ -26,3 +27,9 @@ pub fn sound_folders_give_their_map()
 {
     held_are_whole();
 }
+
+/// The pairs of a map from a bound on are its first pair, and those behind that: so who asks for the first one, then for the
+/// first one behind it, and so on, is told exactly these, in their order.
+pub fn pairs_are_told_in_turn()
+    ensures { PairsAreToldInTurn }
+{}

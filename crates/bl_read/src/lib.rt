@@ -12,7 +12,10 @@ mod tables;
 mod told;
 
 pub use bound::Bound;
-pub use laws::{given_maps_are_one, given_versions_are_whole, sound_folders_give_their_map};
+pub use laws::{
+    given_maps_are_one, given_versions_are_whole, pairs_are_told_in_turn,
+    sound_folders_give_their_map,
+};
 pub use lookup::find;
 pub use memories::Memories;
 pub use pairs::{Pair, Pairs, next_pair};

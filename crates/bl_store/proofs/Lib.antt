@@ -16,3 +16,6 @@ mod ComposeLemmas
 mod BesideLemmas
 mod CompactLemmas
 mod ReopenLemmas
+mod ReadLemmas
+mod TellLemmas
+mod FinishLemmas

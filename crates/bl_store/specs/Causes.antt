@@ -2,6 +2,8 @@
 use Rattle.std.specs.Prelude.{◌≡◌, ◌⊎◌, ℕ, ◌^◌}
 use Rattle.bl_wal.specs.declared.error.WalErr.{WalErr}
 use Rattle.bl_wal.specs.declared.error.WalErr.TheVariants as wal
+use Rattle.bl_entry.specs.declared.run.RunErr.{RunErr}
+use Rattle.bl_entry.specs.declared.run.RunErr.TheVariants as run
 use Rattle.bl_manifest.specs.declared.error.ManifestErr.{ManifestErr}
 use Rattle.bl_manifest.specs.declared.error.ManifestErr.TheVariants as manifest
 use Rattle.bl_out.specs.declared.error.JobErr.{JobErr}
@@ -20,6 +22,11 @@ abbrev pub of_manifest : ManifestErr → StoreErr
 of_manifest manifest.Disk = Disk
 of_manifest (manifest.Corrupt name place) = Corrupt name place
 of_manifest manifest.OutOfMemory = OutOfMemory
+
+abbrev pub of_run : RunErr → StoreErr
+of_run run.Disk = Disk
+of_run (run.Corrupt name place) = Corrupt name place
+of_run run.OutOfMemory = OutOfMemory
 
 abbrev pub of_job : JobErr → StoreErr
 of_job job.Disk = Disk

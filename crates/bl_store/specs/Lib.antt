@@ -9,3 +9,6 @@ pub mod Opening
 pub mod Reopening
 pub mod Compacted
 pub mod CompactionLaws
+pub mod Reading
+pub mod Telling
+pub mod Finishing

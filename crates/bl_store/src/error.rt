@@ -5,7 +5,7 @@ ghost use Rattle.bl_store.specs.declared.error.StoreErr.TheVariants.{OutOfMemory
 
 use bl_build::BuildErr;
 use bl_code::{CodeErr, Octets};
-use bl_entry::EntryErr;
+use bl_entry::{EntryErr, RunErr};
 use bl_manifest::ManifestErr;
 use bl_open::OpenErr;
 use bl_out::JobErr;
@@ -108,6 +108,20 @@ impl From<OpenErr> for StoreErr {
                 asked,
             },
             OpenErr::OutOfMemory => StoreErr::OutOfMemory,
+        }
+    }
+}
+
+impl From<RunErr> for StoreErr {
+    ghost use Rattle.bl_store.specs.Causes.{of_run};
+
+    ghost from_gives = { λ e w. w ≡ of_run e };
+
+    fn from(error: RunErr) -> StoreErr {
+        match error {
+            RunErr::Disk => StoreErr::Disk,
+            RunErr::Corrupt(name, place) => StoreErr::Corrupt(name, place),
+            RunErr::OutOfMemory => StoreErr::OutOfMemory,
         }
     }
 }

@@ -4,8 +4,11 @@
 
 mod compacted;
 mod error;
+mod finish;
 mod flush;
 mod opening;
+mod pairs;
+mod read;
 mod reopen;
 mod report;
 mod store;
@@ -13,6 +16,9 @@ mod switch;
 mod write;
 
 pub use compacted::{compactions_are_installed, jobs_may_be_installed};
+pub use bl_read::{Bound, Pair, Pairs};
 pub use error::StoreErr;
+pub use finish::durable_stores_are_left;
+pub use read::{At, stores_give_their_map};
 pub use report::Report;
 pub use store::Store;
