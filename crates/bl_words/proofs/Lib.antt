@@ -1,0 +1,4 @@
+mod LawLemmas
+mod OptionLemmas
+mod ReadLemmas
+mod Rows
