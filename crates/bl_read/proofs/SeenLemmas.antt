@@ -74,19 +74,20 @@ one_revision (x ∷ xs) p a b (inr h) (inl it) key seq =
     absurd (not_distinct x a (all_at (λ r. same_revision x r ≡ false) xs a p.0 h) (ap (λ (r : Revision). r.key) it ∙ sym key) (ap (λ (r : Revision). r.seq) it ∙ sym seq))
 one_revision (x ∷ xs) p a b (inr h) (inr k) key seq = one_revision xs p.1 a b h k key seq
 
--- ---- lists with the same revisions tell the same values
+-- ---- lists with the same revisions up to a sequence tell the same values there
 
 module _ (xs ys : List Revision) (s : ℕ) (key : List ℕ) where
   is_seen : Revision → Bool
   is_seen e = same_bytes e.key key && nat_le e.seq s
 
-  pub same_value : IsDistinct same_revision xs → ((q : Revision) → Among q ys → Among q xs) → ((q : Revision) → Among q xs → Among q ys) → value_at ys s key ≡ value_at xs s key
+  pub same_value : IsDistinct same_revision xs → ((q : Revision) → Among q ys → nat_le q.seq s ≡ true → Among q xs) → ((q : Revision) → Among q xs → nat_le q.seq s ≡ true → Among q ys)
+      → value_at ys s key ≡ value_at xs s key
   unfolding is_seen
   same_value distinct sub to =
       ap (option_and_then (λ e. e.put))
       (same_newest (seen s key xs) (seen s key ys)
-      (λ q h. let a = among_filter is_seen ys q h in to_filter is_seen xs q (sub q a.0) a.1)
-      (λ q h. let a = among_filter is_seen xs q h in to_filter is_seen ys q (to q a.0) a.1)
+      (λ q h. let a = among_filter is_seen ys q h in to_filter is_seen xs q (sub q a.0 (both_true (same_bytes q.key key) (nat_le q.seq s) a.1).1) a.1)
+      (λ q h. let a = among_filter is_seen xs q h in to_filter is_seen ys q (to q a.0 (both_true (same_bytes q.key key) (nat_le q.seq s) a.1).1) a.1)
       (λ a b h k seq.
       let p = among_filter is_seen xs a h in
       let q = among_filter is_seen xs b k in

@@ -1,7 +1,8 @@
 -- The map of a folder is given to readers.
-use Rattle.std.proofs.Common.{◌≡◌, ℕ, zero, suc, ◌+◌, ◌<◌, ◌≤◌, List, [], ◌∷◌, ◌++◌, length, take, drop, refl, sym, ◌∙◌, ap, subst, arith, inl, inr, Option, Some, None}
+use Rattle.std.proofs.Common.{◌≡◌, nat_le, true, ℕ, zero, suc, ◌+◌, ◌<◌, ◌≤◌, List, [], ◌∷◌, ◌++◌, length, take, drop, refl, sym, ◌∙◌, ap, subst, arith, inl, inr, Option, Some, None}
 use Rattle.std.specs.Prelude.{max, map, flat_map, sum_by}
 use Rattle.std.specs.List.{AllByRecursion, IsDistinct, fold}
+use Rattle.std.proofs.lemmas.Bool.{leb-true}
 use Rattle.std.proofs.lemmas.Grind.{flat_map-append}
 use Rattle.std.proofs.lemmas.List.{append-nil, take-append-drop}
 use Rattle.std.proofs.lemmas.List.Sums.{sum_by-cons}
@@ -60,6 +61,13 @@ follow_drop (suc count) before (b ∷ bs) h =
     sum_by-cons (λ (c : Batch). length c.operations) b (take count bs) in
     let e : last_after (before + length b.operations) (take count bs) ≡ last_after before (b ∷ take count bs) = omega arith in
     subst (λ n. Follow n (drop count bs)) e (follow_drop count (before + length b.operations) bs h.1)
+
+follow_both : (before : ℕ) (bs more : List Batch) → Follow before bs → Follow (last_after before bs) more → Follow before (bs ++ more)
+follow_both before [] more h k = let e : before + 0 ≡ before = omega arith in subst (λ n. Follow n more) e k
+follow_both before (b ∷ bs) more h k =
+    let total : sum_by (λ (c : Batch). length c.operations) (b ∷ bs) ≡ length b.operations + sum_by (λ (c : Batch). length c.operations) bs = sum_by-cons (λ (c : Batch). length c.operations) b bs in
+    let e : last_after before (b ∷ bs) ≡ last_after (before + length b.operations) bs = omega arith in
+    (h.0, follow_both (before + length b.operations) bs more h.1 (subst (λ n. Follow n more) e k))
 
 -- ---- the sequences of tables
 
@@ -136,7 +144,7 @@ module _ (older : List Revision) (last : ℕ) (bs : List Batch) (memory : List E
 
 -- ---- the map
 
-module _ (law : HeldAreWhole) (folder : Folder) (m : Map) (s : StandsLive folder m) where
+module _ (law : HeldAreWhole) (folder : Folder) (m : Map) (s : StandsLive folder m) (more : List Batch) (next : Follow s.holding.last more) where
   whole : IsWhole s.holding
   whole = law folder s.manifest s.holding s.holds
 
@@ -152,9 +160,22 @@ module _ (law : HeldAreWhole) (folder : Folder) (m : Map) (s : StandsLive folder
   low : AreUpTo s.holding.live.standing.last_sequence tables.0
   low = found_seqs held s.holding.live.standing.last_sequence (table_entries s.holding.tables) tables.0 tables.1 (tables_old s.holding whole s.sound.tables s.sound.behind)
 
+  follows : Follow s.holding.live.standing.last_sequence (s.holding.batches ++ more)
+  follows = follow_both s.holding.live.standing.last_sequence s.holding.batches more whole.follow (subst (λ n. Follow n more) whole.last next)
+
+  -- what the further batches write is not seen at the last sequence
+  not_seen : (q : Revision) → Among q (revisions_of more) → nat_le q.seq s.holding.last ≡ true → ⊥
+  not_seen q there le =
+      let above : s.holding.last < q.seq = (all_at (λ (r : Revision). (s.holding.last < r.seq) × (r.seq ≤ last_after s.holding.last more)) (revisions_of more) q (following s.holding.last more next) there).0 in
+      let most : q.seq ≤ s.holding.last = leb-true q.seq s.holding.last le in
+      absurd (omega (arith, above, most))
+
+  split_more : revisions_of (s.holding.batches ++ more) ≡ revisions_of s.holding.batches ++ revisions_of more
+  split_more = flat_map-append (λ (b : Batch). revisions_from b.first b.operations) s.holding.batches more
+
   gives : (waiting : Option (List Entry)) (in_use : List Entry) → AreNewer tables.0 (memories_of waiting in_use)
-      → ((q : Revision) → Among q (flat_map revisions_in (memories_of waiting in_use)) → Among q (revisions_of s.holding.batches))
-      → ((q : Revision) → Among q (revisions_of s.holding.batches) → Among q (flat_map revisions_in (memories_of waiting in_use)))
+      → ((q : Revision) → Among q (flat_map revisions_in (memories_of waiting in_use)) → Among q (revisions_of (s.holding.batches ++ more)))
+      → ((q : Revision) → Among q (revisions_of (s.holding.batches ++ more)) → Among q (flat_map revisions_in (memories_of waiting in_use)))
       → Gives folder (record { version = s.holding.live.version; memories = memories_of waiting in_use }) s.holding.last m
   unfolding held
   gives waiting in_use newer sub to =
@@ -174,46 +195,53 @@ module _ (law : HeldAreWhole) (folder : Folder) (m : Map) (s : StandsLive folder
         once = distinct_left same_revision tables.0 wrote distinct;
         newer = newer;
         map_is = λ key. s.sound.map_is key ∙ sym (ap (λ rs. value_at rs s.holding.last key) tables.2) ∙ sym (same_value (tables.0 ++ wrote) (tables.0 ++ told) s.holding.last key distinct
-            (λ q there. elim (among_parts tables.0 told q there) [ inl a ↦ among_left tables.0 wrote q a | inr b ↦ among_right tables.0 wrote q (sub q b) ])
-            (λ q there. elim (among_parts tables.0 wrote q there) [ inl a ↦ among_left tables.0 told q a | inr b ↦ among_right tables.0 told q (to q b) ]));
+            (λ q there le. elim (among_parts tables.0 told q there) [
+              | inl a ↦ among_left tables.0 wrote q a
+              | inr b ↦ elim (among_parts wrote (revisions_of more) q (subst (Among q) split_more (sub q b))) [ inl x ↦ among_right tables.0 wrote q x | inr y ↦ absurd (not_seen q y le) ]
+            ])
+            (λ q there le. elim (among_parts tables.0 wrote q there) [
+              | inl a ↦ among_left tables.0 told q a
+              | inr b ↦ among_right tables.0 told q (to q (subst (Among q) (sym split_more) (among_left wrote (revisions_of more) q b)))
+            ]));
       }
 
   behind : (bs : List Batch) (memory : List Entry) (older : List Revision) (last : ℕ) → AreUpTo last older → Follow last bs → IsMemoryOf bs memory → IsNewer memory older
   behind bs memory older last low follow of = is_newer older last bs memory low follow of
 
-  one : (in_use : List Entry) → IsMemoryOf s.holding.batches in_use → Gives folder (record { version = s.holding.live.version; memories = in_use ∷ [] }) s.holding.last m
+  one : (in_use : List Entry) → IsMemoryOf (s.holding.batches ++ more) in_use → Gives folder (record { version = s.holding.live.version; memories = in_use ∷ [] }) s.holding.last m
   one in_use of =
-      gives None in_use (behind s.holding.batches in_use tables.0 s.holding.live.standing.last_sequence low whole.follow of, tt)
-      (λ q there. to_batches s.holding.batches in_use of q (subst (Among q) (append-nil (revisions_in in_use)) there))
-      (λ q there. subst (Among q) (sym (append-nil (revisions_in in_use))) (to_memory s.holding.batches in_use of q there))
+      gives None in_use (behind (s.holding.batches ++ more) in_use tables.0 s.holding.live.standing.last_sequence low follows of, tt)
+      (λ q there. to_batches (s.holding.batches ++ more) in_use of q (subst (Among q) (append-nil (revisions_in in_use)) there))
+      (λ q there. subst (Among q) (sym (append-nil (revisions_in in_use))) (to_memory (s.holding.batches ++ more) in_use of q there))
 
-  module _ (count : ℕ) (waiting in_use : List Entry) (first : IsMemoryOf (take count s.holding.batches) waiting) (second : IsMemoryOf (drop count s.holding.batches) in_use) where
-    split : revisions_of s.holding.batches ≡ revisions_of (take count s.holding.batches) ++ revisions_of (drop count s.holding.batches)
+  module _ (count : ℕ) (waiting in_use : List Entry) (first : IsMemoryOf (take count (s.holding.batches ++ more)) waiting) (second : IsMemoryOf (drop count (s.holding.batches ++ more)) in_use) where
+    split : revisions_of (s.holding.batches ++ more) ≡ revisions_of (take count (s.holding.batches ++ more)) ++ revisions_of (drop count (s.holding.batches ++ more))
     split =
-        ap revisions_of (sym (take-append-drop count s.holding.batches))
-        ∙ flat_map-append (λ (b : Batch). revisions_from b.first b.operations) (take count s.holding.batches) (drop count s.holding.batches)
+        ap revisions_of (sym (take-append-drop count (s.holding.batches ++ more)))
+        ∙ flat_map-append (λ (b : Batch). revisions_from b.first b.operations) (take count (s.holding.batches ++ more)) (drop count (s.holding.batches ++ more))
 
     two : Gives folder (record { version = s.holding.live.version; memories = waiting ∷ in_use ∷ [] }) s.holding.last m
     two =
-        let follows : Follow s.holding.live.standing.last_sequence (take count s.holding.batches) = follow_take count s.holding.live.standing.last_sequence s.holding.batches whole.follow in
+        let front : List Batch = take count (s.holding.batches ++ more) in
+        let back : List Batch = drop count (s.holding.batches ++ more) in
+        let old : ℕ = s.holding.live.standing.last_sequence in
+        let first_follows : Follow old front = follow_take count old (s.holding.batches ++ more) follows in
         gives (Some waiting) in_use (
-          behind (take count s.holding.batches) waiting tables.0 s.holding.live.standing.last_sequence low follows first,
+          behind front waiting tables.0 old low first_follows first,
           (
-            behind (drop count s.holding.batches) in_use (tables.0 ++ revisions_in waiting) (last_after s.holding.live.standing.last_sequence (take count s.holding.batches))
-                (up_to tables.0 s.holding.live.standing.last_sequence (take count s.holding.batches) waiting low follows first)
-                (follow_drop count s.holding.live.standing.last_sequence s.holding.batches whole.follow) second,
+            behind back in_use (tables.0 ++ revisions_in waiting) (last_after old front) (up_to tables.0 old front waiting low first_follows first) (follow_drop count old (s.holding.batches ++ more) follows) second,
             tt,
           ),
         )
         (λ q there. subst (Among q) (sym split) (elim (among_parts (revisions_in waiting) (revisions_in in_use ++ []) q there) [
-          | inl a ↦ among_left (revisions_of (take count s.holding.batches)) (revisions_of (drop count s.holding.batches)) q (to_batches (take count s.holding.batches) waiting first q a)
-          | inr b ↦ among_right (revisions_of (take count s.holding.batches)) (revisions_of (drop count s.holding.batches)) q (to_batches (drop count s.holding.batches) in_use second q (subst (Among q) (append-nil (revisions_in in_use)) b))
+          | inl a ↦ among_left (revisions_of front) (revisions_of back) q (to_batches front waiting first q a)
+          | inr b ↦ among_right (revisions_of front) (revisions_of back) q (to_batches back in_use second q (subst (Among q) (append-nil (revisions_in in_use)) b))
         ]))
-        (λ q there. elim (among_parts (revisions_of (take count s.holding.batches)) (revisions_of (drop count s.holding.batches)) q (subst (Among q) split there)) [
-          | inl a ↦ among_left (revisions_in waiting) (revisions_in in_use ++ []) q (to_memory (take count s.holding.batches) waiting first q a)
-          | inr b ↦ among_right (revisions_in waiting) (revisions_in in_use ++ []) q (subst (Among q) (sym (append-nil (revisions_in in_use))) (to_memory (drop count s.holding.batches) in_use second q b))
+        (λ q there. elim (among_parts (revisions_of front) (revisions_of back) q (subst (Among q) split there)) [
+          | inl a ↦ among_left (revisions_in waiting) (revisions_in in_use ++ []) q (to_memory front waiting first q a)
+          | inr b ↦ among_right (revisions_in waiting) (revisions_in in_use ++ []) q (subst (Among q) (sym (append-nil (revisions_in in_use))) (to_memory back in_use second q b))
         ])
 
 pub sound_given : HeldAreWhole → SoundFoldersGiveTheirMap
-sound_given law folder m s None in_use of = one law folder m s in_use of
-sound_given law folder m s (Some waiting) in_use (count, first, second) = two law folder m s count waiting in_use first second
+sound_given law folder m s more None in_use next of = one law folder m s more next in_use of
+sound_given law folder m s more (Some waiting) in_use next (count, first, second) = two law folder m s more next count waiting in_use first second

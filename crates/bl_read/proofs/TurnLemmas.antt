@@ -14,8 +14,8 @@ use Rattle.bl_entry.proofs.ListLemmas.{by_test}
 use Rattle.bl_read.specs.declared.bound.Bound.{Bound}
 use Rattle.bl_read.specs.declared.bound.Bound.TheVariants.{After}
 use Rattle.bl_read.specs.declared.pairs.Pair.{Pair}
-use Rattle.bl_read.specs.Scanning.{is_reached, next_in}
-use Rattle.bl_read.specs.Turns.{PairsAreToldInTurn, first_and_behind, pairs_from}
+use Rattle.bl_read.specs.Scanning.{is_reached}
+use Rattle.bl_read.specs.Turns.{PairsAreToldInTurn, first_and_behind}
 use Rattle.bl_read.proofs.BoundLemmas.{itself, lt_is, reached_behind, turned}
 
 abbrev Pairs : Type 0

@@ -20,8 +20,8 @@ pub fn given_versions_are_whole()
     named_are_read();
 }
 
-/// Where a folder stands for a map, its version and the memories that have what the batches in its logs write give
-/// readers exactly that map: so a reading call answers by it, and never Corrupt.
+/// Where a folder stands for a map, its version and the memories that have what the batches in its logs write, and perhaps
+/// further ones, give readers exactly that map at its last sequence: so a reading call answers by it, and never Corrupt.
 pub fn sound_folders_give_their_map()
     ensures { SoundFoldersGiveTheirMap }
 {

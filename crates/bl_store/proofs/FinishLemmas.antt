@@ -1,33 +1,30 @@
 -- Disks on which all writes of a store are durable.
-use Rattle.std.proofs.Common.{◌≡◌, ◌≢◌, ℕ, ◌≤◌, false, true, Bool, List, [], ◌∷◌, ◌++◌, length, take, map, refl, sym, ◌∙◌, ap, subst, arith, inl, inr, Option, Some, Result, Ok, Err, OnOk}
-use Rattle.std.specs.Prelude.{◌==◌, Contains}
-use Rattle.std.specs.List.{AllByRecursion}
+use Rattle.std.proofs.Common.{◌≡◌, ℕ, ◌≤◌, false, true, Bool, List, [], ◌∷◌, ◌++◌, length, map, refl, sym, ◌∙◌, ap, subst, arith, Some, Result, Ok, Err, OnOk}
+use Rattle.std.specs.Prelude.{◌==◌}
 use Rattle.std.proofs.lemmas.Bool.{eqb-true, eqb-false}
 use Rattle.std.proofs.lemmas.List.{length-map}
-use Rattle.bl_site.specs.Disk.{Cut, Disk, File, IsCut, MayLeave}
+use Rattle.bl_site.specs.Disk.{Disk, File, IsCut}
 use Rattle.bl_site.specs.declared.site.Site.{Ghosts}
-use Rattle.bl_names.specs.declared.name.FileName.{FileName}
 use Rattle.bl_names.specs.declared.name.FileName.TheVariants.{Current, Manifest, Log, Table, Blob, Temp}
-use Rattle.bl_names.specs.Names.{IsNumber, name_of}
+use Rattle.bl_names.specs.Names.{IsNumber}
 use Rattle.bl_log.specs.Layout.{written}
 use Rattle.bl_edit.specs.Spelling.{edit_bytes}
 use Rattle.bl_records.specs.Held.{HoldsRecords}
 use Rattle.bl_records.specs.WrittenFile.{WrittenFile}
-use Rattle.bl_wal.specs.Held.{HoldsBatches, record_of}
-use Rattle.bl_wal.specs.LogFile.{LogFile, file_of as log_file}
+use Rattle.bl_wal.specs.Held.{record_of}
+use Rattle.bl_wal.specs.LogFile.{file_of as log_file}
 use Rattle.bl_manifest.specs.ManifestFile.{ManifestFile, file_of as manifest_file}
 use Rattle.bl_build.specs.Restoring.{Restored}
-use Rattle.bl_out.proofs.AmongLemmas.{Among, Mapped, all_at, among_mapped, to_among}
-use Rattle.bl_folder.specs.Needed.{IsNeeded}
-use Rattle.bl_folder.specs.Settled.{IsSettled, IsSynced, IsSyncedFile, NeededAreSynced}
+use Rattle.bl_out.proofs.AmongLemmas.{all_at, among_mapped, to_among}
+use Rattle.bl_folder.specs.Settled.{IsSynced, IsSyncedFile, NeededAreSynced}
 use Rattle.bl_open.specs.Steady.{IsSteady, IsUsable, Maps, Steady}
 use Rattle.bl_open.specs.SteadyCuts.{IsLeftFor}
 use Rattle.bl_open.specs.SteadyLaws.{SteadyAreSettled, SyncedAreLeft}
 use Rattle.bl_entry.specs.Revisions.{Map}
 use Rattle.bl_store.specs.Calls.{LeavesStore}
 use Rattle.bl_store.specs.declared.error.StoreErr.{StoreErr}
-use Rattle.bl_store.specs.Finishing.{AllAreDurable, DurableStoresAreLeft, DurableStoresAreSynced, IsAllSynced, IsAtRest}
-use Rattle.bl_store.specs.Held.{Held, all_durable, maps_of, now_of}
+use Rattle.bl_store.specs.Finishing.{AllAreDurable, DurableStoresAreLeft, DurableStoresAreSynced, IsAtRest}
+use Rattle.bl_store.specs.Held.{Held, all_durable, maps_of}
 use Rattle.bl_store.specs.Standing.{StandsFor}
 use Rattle.bl_store.specs.Stored.{IsInOrder, Stored}
 use Rattle.bl_store.proofs.HeldLemmas.{maps_last, take_all}
@@ -111,7 +108,7 @@ module _ (synced : DurableStoresAreSynced) (left : DurableStoresAreLeft) (settle
     synced = synced (all_durable held) s (g.disk site) order unbroken refl t;
     settled = settled_of settled (all_durable held) s (g.disk site) t (order.manifest unbroken);
     left = λ sure c may.
-    left (all_durable held) s (g.disk site) (g.told site) c refl t (subst (λ (d : Disk). IsCut d (g.told site) c) (only sure may.disk may.possible) may.is_cut);
+        left (all_durable held) s (g.disk site) (g.told site) c refl t (subst (λ (d : Disk). IsCut d (g.told site) c) (only sure may.disk may.possible) may.is_cut);
   }
 
 pub at_ok : DurableStoresAreSynced → DurableStoresAreLeft → SteadyAreSettled → {S T : Type 0} (g : Ghosts S) (held : Held) (old new : Stored) (site : S) (result : Result T StoreErr) → IsInOrder old → old.broken ≡ false → (g.certain site → IsOnly g site)

@@ -1,5 +1,5 @@
 -- The operations of a batch go into a memory.
-use Rattle.std.proofs.Common.{◌≡◌, ℕ, zero, suc, ◌+◌, ◌<◌, ◌≤◌, List, [], ◌∷◌, ◌++◌, length, take, refl, sym, ◌∙◌, ap, arith, add-one, get_or, Option, None, Some}
+use Rattle.std.proofs.Common.{◌≡◌, ℕ, zero, suc, ◌+◌, ◌<◌, ◌≤◌, List, [], ◌∷◌, ◌++◌, length, take, refl, sym, ◌∙◌, ap, subst, arith, add-one, get_or, Option, None, Some}
 use Rattle.std.proofs.lemmas.List.{length-take}
 use Rattle.std.proofs.lemmas.List.Sorted.{sum_by-IsPermutation}
 use Rattle.bl_entry.specs.Written.{entries_from, entry}
@@ -8,7 +8,7 @@ use Rattle.bl_entry.specs.declared.key.Entry.{Entry}
 use Rattle.bl_memtab.specs.Filled.{Holds}
 use Rattle.bl_memtab.specs.Tables.{size}
 use Rattle.std.proofs.lemmas.List.Sums.{sum_by-append, sum_by-cons}
-use Rattle.bl_store.specs.Calls.{bytes_in, bytes_of, bytes_put, put_length}
+use Rattle.bl_store.specs.Calls.{HasTaken, bytes_in, bytes_of, bytes_put, put_length}
 
 pub taken : (ops : List Operation) (k : ℕ) (o : Operation) → k < length ops → o ≡ get_or ops k o → take (k + 1) ops ≡ take k ops ++ o ∷ []
 taken ops k o lt e = ap (λ n. take n ops) (add-one k) ∙ by ops k lt e
@@ -20,6 +20,10 @@ taken ops k o lt e = ap (λ n. take n ops) (add-one k) ∙ by ops k lt e
 
 pub taken_length : (ops : List Operation) (k : ℕ) → k ≤ length ops → length (take k ops) ≡ k
 taken_length ops k le = let l = length-take k ops in omega (arith, l, le)
+
+pub has_taken : (ops items : List Operation) (count last : ℕ) (old new : List Entry) → items ≡ ops
+    → ((written : List Entry) → Holds old written last → Holds new (written ++ entries_from (last + 1) (take count items)) (last + length (take count items))) → HasTaken ops last old new
+has_taken ops items count last old new same holds = subst (λ (os : List Operation). HasTaken os last old new) same (record { count = count; holds = holds })
 
 -- ---- bytes
 

@@ -17,5 +17,7 @@ mod BesideLemmas
 mod CompactLemmas
 mod ReopenLemmas
 mod ReadLemmas
+mod GivesLemmas
+mod PartLemmas
 mod TellLemmas
 mod FinishLemmas

@@ -1,5 +1,5 @@
 -- What a store gives readers, and what they are answered.
-use Rattle.std.proofs.Common.{◌≡◌, ℕ, false, List, length, drop, sym, ◌∙◌, ap, subst, inl, inr, Option, None, Some, Result, Ok, Err}
+use Rattle.std.proofs.Common.{◌≡◌, ℕ, false, List, [], ◌++◌, append-nil, drop, sym, ◌∙◌, ap, subst, Option, None, Some, Result, Ok, Err}
 use Rattle.std.specs.Prelude.{IfErr, IfOk, IsErrOf}
 use Rattle.bl_site.specs.Causes.{Rose}
 use Rattle.bl_site.specs.Disk.{Disk, Folder, Name, folder_of}
@@ -10,7 +10,9 @@ use Rattle.bl_entry.specs.declared.run.RunErr.TheVariants as run
 use Rattle.bl_build.specs.Restoring.{Restored}
 use Rattle.bl_wal.specs.LogFile.{LogFile}
 use Rattle.bl_manifest.specs.ManifestFile.{ManifestFile}
-use Rattle.bl_folder.specs.Flushes.{IsMemoryOf}
+use Rattle.bl_entry.specs.Batches.{Batch}
+use Rattle.bl_entry.specs.declared.key.Entry.{Entry}
+use Rattle.bl_folder.specs.Flushes.{Follow, IsMemoryOf}
 use Rattle.bl_folder.specs.Holding.{Holding}
 use Rattle.bl_folder.specs.Laws.{HoldingIsOne}
 use Rattle.bl_folder.specs.Memories.{HeldIsMemory}
@@ -28,7 +30,7 @@ use Rattle.bl_store.specs.Standing.{Carries, HasWaiting, StandsFor}
 use Rattle.bl_store.specs.Stored.{IsInOrder, Stored}
 use Rattle.bl_open.specs.Synced.{as_synced}
 use Rattle.bl_store.specs.declared.error.StoreErr.{StoreErr}
-use Rattle.bl_store.specs.declared.error.StoreErr.TheVariants.{Disk as DiskFailed, OutOfMemory, Corrupt, NoSnapshot}
+use Rattle.bl_store.specs.declared.error.StoreErr.TheVariants.{Disk as DiskFailed, Corrupt, NoSnapshot}
 use Rattle.bl_store.specs.declared.store.Waiting.{Waiting}
 use Rattle.bl_store.proofs.HeldLemmas.{maps_last}
 use Rattle.bl_store.proofs.SyncedLemmas.{same_folder}
@@ -41,6 +43,7 @@ memories_are is_memory s store c = by store.waiting c.waiting
   where
     of : IsMemoryOf (drop s.below s.holding.batches) store.memory
     of = is_memory (drop s.below s.holding.batches) store.memory store.last c.fit c.memory
+
     by : (w : Option Waiting) → HasWaiting s w → AreMemoriesOf s.holding.batches (waiting_in w) store.memory
     by None none = subst (λ n. IsMemoryOf (drop n s.holding.batches) store.memory) none of
     by (Some w) h = (s.below, h.0, of)
@@ -51,22 +54,31 @@ usable_of store s order unbroken c = record {
   manifest = ap (λ (m : ManifestFile). m.failed) c.manifest ∙ order.manifest unbroken;
 }
 
-pub stores_give : HoldingIsOne → HeldIsMemory → SoundFoldersGiveTheirMap → SteadyHold → SteadyStand → StoresGiveTheirMap
-stores_give one is_memory sound hold stand names held store disk order unbroken t =
+-- with memories that have what the batches of its logs write, and perhaps further ones
+pub gives_with : HoldingIsOne → SoundFoldersGiveTheirMap → SteadyHold → SteadyStand → (names : List Name) (held : Held) (store : Stored) (disk : Disk) → IsInOrder store → store.broken ≡ false → (t : StandsFor names held store disk)
+    → (more : List Batch) (waiting : Option (List Entry)) (in_use : List Entry) → Follow store.last more → AreMemoriesOf (t.steady.holding.batches ++ more) waiting in_use
+    → Gives (folder_of disk) (record { version = store.version; memories = memories_of waiting in_use }) store.last (now_of held)
+gives_with one sound hold stand names held store disk order unbroken t more waiting in_use follow memories =
     let c = t.carries in
     let usable = usable_of store t.steady order unbroken c in
     let f : Folder = folder_of (as_synced names disk) in
     let m : Map = now_of held in
-    let memories = memories_of (waiting_in store.waiting) store.memory in
     let stands : StandsLive f m = subst (StandsLive f) (ap (maps_of held) t.writes ∙ maps_last held) (stand (maps_of held) t.steady (as_synced names disk) t.is_steady usable) in
     let same : stands.holding ≡ t.steady.holding =
     (one f stands.manifest t.steady.manifest.number stands.holding t.steady.holding stands.holds (hold (maps_of held) t.steady (as_synced names disk) t.is_steady usable)).1 in
-    let gives = sound f m stands (waiting_in store.waiting) store.memory
-    (subst (λ (h : Holding). AreMemoriesOf h.batches (waiting_in store.waiting) store.memory) (sym same) (memories_are is_memory t.steady store c)) in
-    let held_by : Gives f (record { version = t.steady.holding.live.version; memories = memories }) t.steady.holding.last m =
-    subst (λ (h : Holding). Gives f (record { version = h.live.version; memories = memories }) h.last m) same gives in
-    let seen : Gives f (view_of store) t.steady.holding.last m = subst (λ (r : Restored). Gives f (record { version = r.version; memories = memories }) t.steady.holding.last m) c.live held_by in
-    subst (λ (g : Folder). Gives g (view_of store) store.last m) (same_folder names disk) (subst (λ n. Gives f (view_of store) n m) c.last seen)
+    let given = sound f m stands more waiting in_use (subst (λ n. Follow n more) (sym (ap (λ (h : Holding). h.last) same ∙ c.last)) follow)
+    (subst (λ (h : Holding). AreMemoriesOf (h.batches ++ more) waiting in_use) (sym same) memories) in
+    let held_by : Gives f (record { version = t.steady.holding.live.version; memories = memories_of waiting in_use }) t.steady.holding.last m =
+    subst (λ (h : Holding). Gives f (record { version = h.live.version; memories = memories_of waiting in_use }) h.last m) same given in
+    let seen : Gives f (record { version = store.version; memories = memories_of waiting in_use }) t.steady.holding.last m =
+    subst (λ (r : Restored). Gives f (record { version = r.version; memories = memories_of waiting in_use }) t.steady.holding.last m) c.live held_by in
+    subst (λ (g : Folder). Gives g (record { version = store.version; memories = memories_of waiting in_use }) store.last m) (same_folder names disk)
+    (subst (λ n. Gives f (record { version = store.version; memories = memories_of waiting in_use }) n m) c.last seen)
+
+pub stores_give : HoldingIsOne → HeldIsMemory → SoundFoldersGiveTheirMap → SteadyHold → SteadyStand → StoresGiveTheirMap
+stores_give one is_memory sound hold stand names held store disk order unbroken t =
+    gives_with one sound hold stand names held store disk order unbroken t [] (waiting_in store.waiting) store.memory tt
+    (subst (λ bs. AreMemoriesOf bs (waiting_in store.waiting) store.memory) (sym (append-nil t.steady.holding.batches)) (memories_are is_memory t.steady store t.carries))
 
 -- ---- what is answered
 

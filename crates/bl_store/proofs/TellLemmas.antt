@@ -1,5 +1,5 @@
 -- Pairs of a store that are told one after the other.
-use Rattle.std.proofs.Common.{◌≡◌, List, [], ◌++◌, false, refl, sym, ◌∙◌, ap, Option, None, Some, Result, Ok, Err}
+use Rattle.std.proofs.Common.{◌≡◌, ◌++◌, refl, sym, ◌∙◌, ap, Option, None, Some, Result, Ok, Err}
 use Rattle.std.specs.Prelude.{IfOk}
 use Rattle.bl_site.specs.declared.site.Site.{Ghosts}
 use Rattle.bl_entry.specs.Revisions.{Map}

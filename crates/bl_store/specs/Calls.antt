@@ -1,5 +1,5 @@
 -- What calls of a store do.
-use Rattle.std.specs.Prelude.{◌≡◌, ◌⊎◌, ℕ, ◌+◌, ◌<◌, ◌≤◌, ◌^◌, nat_le, Bool, true, false, List, [], ◌∷◌, length, sum_by, Option, None, Some, Result, Err, IfErr, IsSome, OnOk, OnErr, IsErrOf, if◌then◌else◌}
+use Rattle.std.specs.Prelude.{◌≡◌, ◌⊎◌, ℕ, ◌+◌, ◌<◌, ◌≤◌, ◌^◌, nat_le, Bool, true, false, List, [], ◌∷◌, ◌++◌, length, take, sum_by, Option, None, Some, Result, Err, IfErr, IsSome, OnOk, OnErr, IsErrOf, if◌then◌else◌}
 use Rattle.bl_site.specs.Causes.{Rose}
 use Rattle.bl_site.specs.Disk.{Disk, Name, folder_of, written_of}
 use Rattle.bl_site.specs.Calls.{LeavesOnly}
@@ -9,6 +9,8 @@ use Rattle.bl_names.specs.Names.{IsNameOf, IsNumber, manifest_name}
 use Rattle.bl_names.specs.declared.name.FileName.{FileName}
 use Rattle.bl_entry.specs.declared.batch.Operation.{Operation}
 use Rattle.bl_entry.specs.declared.key.Entry.{Entry}
+use Rattle.bl_entry.specs.Written.{entries_from}
+use Rattle.bl_memtab.specs.Filled.{Holds}
 use Rattle.bl_memtab.specs.Tables.{size}
 use Rattle.bl_records.specs.Chance.{NoChanceMatch}
 use Rattle.bl_wal.specs.LogFile.{log_name}
@@ -125,6 +127,11 @@ pub record HasAppended (operations : List Operation) (old new : Stored) : Type 0
   pub last : new.last ≡ old.last + length operations
   pub bytes : bytes_in new.memory ≡ bytes_in old.memory + bytes_of operations
   pub rest : new ≡ record old { log = new.log; last = new.last; memory = new.memory }
+
+-- Of the operations some first ones went into the memory.
+pub record HasTaken (operations : List Operation) (last : ℕ) (old new : List Entry) : Type 0 where
+  pub count : ℕ
+  pub holds : (written : List Entry) → Holds old written last → Holds new (written ++ entries_from (last + 1) (take count operations)) (last + length (take count operations))
 
 -- The memory that was in use waits, and the batch went into a new one.
 pub record HasWrittenBehindRoom (operations : List Operation) (old new : Stored) : Type 0 where

@@ -1,5 +1,5 @@
 -- What calls that read a store answer.
-use Rattle.std.specs.Prelude.{◌≡◌, ◌↔◌, ℕ, List, false, Option, Result, Err, IfErr, IfOk, IsErrOf}
+use Rattle.std.specs.Prelude.{◌≡◌, ◌↔◌, ℕ, List, false, Option, Result, Err, IfOk, OnErr, IsErrOf}
 use Rattle.std.specs.Option.{option_map}
 use Rattle.bl_site.specs.Causes.{Rose}
 use Rattle.bl_site.specs.Disk.{Disk, Name, folder_of}
@@ -34,6 +34,10 @@ GivesMap m s disk = Gives (folder_of disk) (view_of s) s.last m
 -- A store that stands on the disk for what it holds, and is not broken, gives readers the map after all its writes.
 abbrev pub StoresGiveTheirMap : Type 0
 StoresGiveTheirMap = (names : List Name) (held : Held) (s : Stored) (disk : Disk) → IsInOrder s → s.broken ≡ false → StandsFor names held s disk → GivesMap (now_of held) s disk
+
+-- A writing call that failed leaves a store giving readers the map that it held, also where the store is broken then: the write in hand is not seen.
+abbrev pub StillGives : {T : Type 0} → Held → Result T StoreErr → Stored → Disk → Type 0
+StillGives held result new disk = OnErr result (GivesMap (now_of held) new disk)
 
 -- ---- what is answered
 

@@ -7,6 +7,7 @@ ghost use Rattle.bl_store.specs.Calls.{Breaks, CutsOfCall, LeavesStore, WritesOw
 ghost use Rattle.bl_store.specs.Causes.{IsSyncing, OrBroken};
 ghost use Rattle.bl_store.specs.Finishing.{DurableStoresAreLeft, DurableStoresAreSynced, IsAtRest};
 ghost use Rattle.bl_store.specs.Held.{Held, all_durable};
+ghost use Rattle.bl_store.specs.Reading.{StillGives};
 ghost use Rattle.bl_store.specs.Standing.{IsThere, StandsFor};
 
 use crate::error::StoreErr;
@@ -29,7 +30,7 @@ impl Store {
     /// may go on. Files that are not needed any more stay where they are.
     ///
     /// Errors: `Broken` exactly where the store is broken; `Disk` and `OutOfMemory`, either of which breaks the store. It holds
-    /// what it held then, but no more writes are known to be durable.
+    /// what it held then, and gives readers that, but no more writes are known to be durable.
     pub fn finish<S: Site>(&mut self, site: &mut S) -> Result<(), StoreErr>
         requires there { S.shows → IsThere self.old (S.disk site.old) }
         ensures broken { (result ≡ Err StoreErr.Broken) ↔ (self.old.broken ≡ true) }
@@ -40,6 +41,7 @@ impl Store {
         ensures stands { S.shows → self.old.broken ≡ false → (names : List Name) (held : Held) → StandsFor names held self.old (S.disk site.old)
             → LeavesStore names held (all_durable held) result self.new (S.disk site.new) }
         ensures rests { S.shows → self.old.broken ≡ false → (held : Held) → StandsFor [] held self.old (S.disk site.old) → OnOk result (IsAtRest S.Site held self.new site.new) }
+        ensures gives { S.shows → self.old.broken ≡ false → (names : List Name) (held : Held) → StandsFor names held self.old (S.disk site.old) → StillGives held result self.new (S.disk site.new) }
         ensures cuts { S.shows → S.certain site.old → self.old.broken ≡ false → (held : Held) → StandsFor [] held self.old (S.disk site.old) → CutsOfCall S.Site held (all_durable held) site.old site.new }
         ensures own { WritesOwn S.Site result self.old self.new site.old site.new }
         ensures causes { IfErr result (OrBroken IsSyncing) }

@@ -22,11 +22,13 @@ ghost use Rattle.bl_store.specs.Calls.{Breaks, CutsOfCall, HasEmptied, HasFlushe
 ghost use Rattle.bl_store.specs.Causes.{IsMaking, IsSyncing};
 ghost use Rattle.bl_store.specs.Flushing.{HasFlushed, HasMade};
 ghost use Rattle.bl_store.specs.Held.{Held, all_durable};
+ghost use Rattle.bl_store.specs.Reading.{StillGives};
 ghost use Rattle.bl_store.specs.Standing.{IsThere, StandsFor};
 ghost use Rattle.bl_store.specs.Stored.{IsWaiting};
 ghost use Rattle.bl_open.specs.Synced.{AreFilesBelow, as_synced};
 
 use crate::error::StoreErr;
+use crate::read::stores_give_their_map;
 use crate::store::{Store, Waiting};
 use bl_build::{Version, apply};
 use bl_code::blob_indexes_are_unique;
@@ -169,6 +171,7 @@ impl Store {
         ensures asked { IsErrOf result StoreErr.OutOfMemory → Rose (S.changes site.old) (S.changes site.new) ⊎ (S.changes site.new ≡ S.changes site.old) }
         ensures asked_ok { OnOk result (Rose (S.changes site.old) (S.changes site.new) ⊎ (S.changes site.new ≡ S.changes site.old)) }
         ensures stands { S.shows → (names : List Name) (held : Held) → StandsFor names held self.old (S.disk site.old) → LeavesStore names held held result self.new (S.disk site.new) }
+        ensures gives { S.shows → (names : List Name) (held : Held) → StandsFor names held self.old (S.disk site.old) → StillGives held result self.new (S.disk site.new) }
         ensures cuts { S.shows → S.certain site.old → (held : Held) → StandsFor [] held self.old (S.disk site.old) → CutsOfCall S.Site held held site.old site.new }
         ensures own { WritesOwn S.Site result self.old self.new site.old site.new }
         ensures causes { IfErr result IsMaking }
@@ -183,6 +186,7 @@ impl Store {
         folders_stand_for_one_map();
         other_files_do_not_matter();
         quiet_cuts_keep_needed();
+        stores_give_their_map();
         synced_manifests_are_left();
         steady_disks_stand();
         steady_disks_are_left();
@@ -229,6 +233,7 @@ impl Store {
         ensures disk_breaks { IsErrOf result StoreErr.Disk → self.new.broken ≡ true }
         ensures always { IsErrOf result StoreErr.OutOfMemory → (self.new.broken ≡ true) × (Rose (S.changes site.old) (S.changes site.new) ⊎ (S.changes site.new ≡ S.changes site.old)) }
         ensures stands { S.shows → (names : List Name) (held : Held) → StandsFor names held self.old (S.disk site.old) → LeavesStore names held held result self.new (S.disk site.new) }
+        ensures gives { S.shows → (names : List Name) (held : Held) → StandsFor names held self.old (S.disk site.old) → StillGives held result self.new (S.disk site.new) }
         ensures cuts { S.shows → S.certain site.old → (held : Held) → StandsFor [] held self.old (S.disk site.old) → CutsOfCall S.Site held held site.old site.new }
         ensures own { WritesOwn S.Site result self.old self.new site.old site.new }
         ensures causes { IfErr result IsMaking }
@@ -255,6 +260,7 @@ impl Store {
         ensures breaks { Breaks S.Site result self.old self.new site.old site.new }
         ensures always { IsErrOf result StoreErr.OutOfMemory → self.new.broken ≡ true }
         ensures stands { S.shows → (names : List Name) (held : Held) → StandsFor names held self.old (S.disk site.old) → LeavesStore names held (all_durable held) result self.new (S.disk site.new) }
+        ensures gives { S.shows → (names : List Name) (held : Held) → StandsFor names held self.old (S.disk site.old) → StillGives held result self.new (S.disk site.new) }
         ensures cuts { S.shows → S.certain site.old → (held : Held) → StandsFor [] held self.old (S.disk site.old) → CutsOfCall S.Site held (all_durable held) site.old site.new }
         ensures own { WritesOwn S.Site result self.old self.new site.old site.new }
         ensures causes { IfErr result IsMaking }
@@ -269,7 +275,7 @@ impl Store {
     ///
     /// Errors: `Broken` exactly where the store is broken; else `Full` with 10^15 exactly where more files are to be made than numbers
     /// are left and no other failure comes before; `Disk`; `OutOfMemory`. After `Disk`, and after `OutOfMemory` once the folder was asked, the store is broken. Else it holds what it
-    /// held; a memory may have been flushed or switched by then.
+    /// held; a memory may have been flushed or switched by then. Either way readers are given the map that it held.
     #[tactic(auto, using(crate::proofs::NumberLemmas::switch_within))]
     pub fn flush<S: Site>(&mut self, alloc: Global, site: &mut S) -> Result<(), StoreErr>
         requires there { S.shows → IsThere self.old (S.disk site.old) }
@@ -280,6 +286,7 @@ impl Store {
         ensures stays { self.old.broken ≡ true → (self.new ≡ self.old) × (site.new ≡ site.old) }
         ensures stands { S.shows → self.old.broken ≡ false → (names : List Name) (held : Held) → StandsFor names held self.old (S.disk site.old)
             → LeavesStore names held (all_durable held) result self.new (S.disk site.new) }
+        ensures gives { S.shows → self.old.broken ≡ false → (names : List Name) (held : Held) → StandsFor names held self.old (S.disk site.old) → StillGives held result self.new (S.disk site.new) }
         ensures cuts { S.shows → S.certain site.old → self.old.broken ≡ false → (held : Held) → StandsFor [] held self.old (S.disk site.old) → CutsOfCall S.Site held (all_durable held) site.old site.new }
         ensures own { WritesOwn S.Site result self.old self.new site.old site.new }
         ensures disk { IsErrOf result StoreErr.Disk → Rose (S.disk_faults site.old) (S.disk_faults site.new) }

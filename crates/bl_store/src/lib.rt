@@ -15,8 +15,8 @@ mod store;
 mod switch;
 mod write;
 
-pub use compacted::{compactions_are_installed, jobs_may_be_installed};
 pub use bl_read::{Bound, Pair, Pairs};
+pub use compacted::{compactions_are_installed, jobs_may_be_installed};
 pub use error::StoreErr;
 pub use finish::durable_stores_are_left;
 pub use read::{At, stores_give_their_map};

@@ -65,7 +65,7 @@ impl Model for Store {
 
 impl Store {
     /// Whether a writing call has failed: it answered `Disk`, or `OutOfMemory` once the folder was asked for a change. Calls that read
-    /// go on; the store is to be opened again.
+    /// go on, by the map that the store held; it is to be opened again.
     pub fn is_broken(&self) -> bool
         ensures { result ≡ self.now.broken }
     {

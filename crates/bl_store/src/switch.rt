@@ -8,13 +8,15 @@ ghost use Rattle.bl_wal.specs.LogFile.{new_log};
 ghost use Rattle.bl_store.specs.Calls.{Breaks, CutsOfCall, LeavesStore, WritesOwn};
 ghost use Rattle.bl_store.specs.Causes.{IsMaking, IsSyncing, OrBroken};
 ghost use Rattle.bl_store.specs.Held.{Held, all_durable};
+ghost use Rattle.bl_store.specs.Reading.{StillGives};
 ghost use Rattle.bl_store.specs.Standing.{IsThere, StandsFor};
 ghost use Rattle.bl_store.specs.Switching.{switched, undrawn};
 
 use crate::error::StoreErr;
+use crate::read::stores_give_their_map;
 use crate::store::{Store, Waiting};
 use bl_entry::batches_join;
-use bl_folder::memories_tell_what_was_inserted;
+use bl_folder::{held_are_whole, memories_tell_what_was_inserted};
 use bl_memtab::{MemTable, batches_are_held};
 use bl_names::{FILE_LIMIT, names_one};
 use bl_open::{
@@ -37,12 +39,15 @@ impl Store {
         ensures breaks { Breaks S.Site result self.old self.new site.old site.new }
         ensures stands { S.shows → (names : List Name) (held : Held) → StandsFor names held self.old (S.disk site.old)
             → LeavesStore names held (all_durable held) result self.new (S.disk site.new) }
+        ensures gives { S.shows → (names : List Name) (held : Held) → StandsFor names held self.old (S.disk site.old) → StillGives held result self.new (S.disk site.new) }
         ensures cuts { S.shows → S.certain site.old → (held : Held) → StandsFor [] held self.old (S.disk site.old) → CutsOfCall S.Site held (all_durable held) site.old site.new }
         ensures own { WritesOwn S.Site result self.old self.new site.old site.new }
         ensures causes { IfErr result IsSyncing }
         ensures disk { IsErrOf result StoreErr.Disk → Rose (S.disk_faults site.old) (S.disk_faults site.new) }
     {
         names_one();
+        held_are_whole();
+        stores_give_their_map();
         steady_disks_stand();
         steady_disks_are_left();
         writes_keep_disks_steady();
@@ -56,7 +61,7 @@ impl Store {
     /// Syncs the log in use: behind it all writes are durable. Nothing else changes.
     ///
     /// Errors: `Broken` exactly where the store is broken; `Disk` and `OutOfMemory`, either of which breaks the store. It holds what it
-    /// held then, but no more writes are known to be durable.
+    /// held then, and gives readers that, but no more writes are known to be durable.
     pub fn sync<S: Site>(&mut self, site: &mut S) -> Result<(), StoreErr>
         requires there { S.shows → IsThere self.old (S.disk site.old) }
         ensures broken { (result ≡ Err StoreErr.Broken) ↔ (self.old.broken ≡ true) }
@@ -66,6 +71,7 @@ impl Store {
         ensures stays { self.old.broken ≡ true → (self.new ≡ self.old) × (site.new ≡ site.old) }
         ensures stands { S.shows → self.old.broken ≡ false → (names : List Name) (held : Held) → StandsFor names held self.old (S.disk site.old)
             → LeavesStore names held (all_durable held) result self.new (S.disk site.new) }
+        ensures gives { S.shows → self.old.broken ≡ false → (names : List Name) (held : Held) → StandsFor names held self.old (S.disk site.old) → StillGives held result self.new (S.disk site.new) }
         ensures cuts { S.shows → S.certain site.old → self.old.broken ≡ false → (held : Held) → StandsFor [] held self.old (S.disk site.old) → CutsOfCall S.Site held (all_durable held) site.old site.new }
         ensures own { WritesOwn S.Site result self.old self.new site.old site.new }
         ensures causes { IfErr result (OrBroken IsSyncing) }
@@ -94,6 +100,7 @@ impl Store {
         ensures broken { OnErr result (self.new ≡ record self.old { broken = true }) }
         ensures stands { S.shows → (names : List Name) (held : Held) → StandsFor names (all_durable held) (undrawn number self.old) (S.disk site.old)
             → LeavesStore names (all_durable held) (all_durable held) result self.new (S.disk site.new) }
+        ensures gives { S.shows → (names : List Name) (held : Held) → StandsFor names (all_durable held) (undrawn number self.old) (S.disk site.old) → StillGives held result self.new (S.disk site.new) }
         ensures cuts { S.shows → S.certain site.old → (held : Held) → StandsFor [] (all_durable held) (undrawn number self.old) (S.disk site.old)
             → CutsOfCall S.Site (all_durable held) (all_durable held) site.old site.new }
         ensures next { self.new.next ≡ self.old.next }
@@ -107,6 +114,8 @@ impl Store {
         batches_join();
         batches_are_held();
         memories_tell_what_was_inserted();
+        held_are_whole();
+        stores_give_their_map();
         steady_disks_stand();
         steady_disks_are_left();
         quiet_calls_keep_disks_steady();
@@ -144,11 +153,13 @@ impl Store {
         ensures breaks { Breaks S.Site result self.old self.new site.old site.new }
         ensures stands { S.shows → (names : List Name) (held : Held) → StandsFor names held self.old (S.disk site.old)
             → LeavesStore names held (all_durable held) result self.new (S.disk site.new) }
+        ensures gives { S.shows → (names : List Name) (held : Held) → StandsFor names held self.old (S.disk site.old) → StillGives held result self.new (S.disk site.new) }
         ensures cuts { S.shows → S.certain site.old → (held : Held) → StandsFor [] held self.old (S.disk site.old) → CutsOfCall S.Site held (all_durable held) site.old site.new }
         ensures own { WritesOwn S.Site result self.old self.new site.old site.new }
         ensures causes { IfErr result IsMaking }
         ensures disk { IsErrOf result StoreErr.Disk → Rose (S.disk_faults site.old) (S.disk_faults site.new) }
     {
+        stores_give_their_map();
         steady_disks_stand();
         steady_disks_are_left();
         if self.numbers.next() == FILE_LIMIT {

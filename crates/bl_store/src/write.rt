@@ -8,18 +8,22 @@ ghost use Rattle.bl_entry.specs.Batches.{IsOperation};
 ghost use Rattle.bl_entry.specs.Written.{entries_from};
 ghost use Rattle.bl_entry.specs.declared.key.Entry.{Entry as EntrySpec};
 ghost use Rattle.bl_memtab.specs.Filled.{Holds};
-ghost use Rattle.bl_store.specs.Calls.{Breaks, CutsOfCall, HasAppended, HasRoom, HasWritten, HasWrittenBehindRoom, LeavesStore, RefusesWrite, WritesOwn, next_flushed};
+ghost use Rattle.bl_store.specs.Calls.{Breaks, CutsOfCall, HasAppended, HasRoom, HasTaken, HasWritten, HasWrittenBehindRoom, LeavesStore, RefusesWrite, WritesOwn, next_flushed};
 ghost use Rattle.bl_store.specs.Causes.{IsMaking, IsSyncing};
 ghost use Rattle.bl_store.specs.Held.{Held, all_durable, with_write};
+ghost use Rattle.bl_store.specs.Reading.{StillGives};
 ghost use Rattle.bl_store.specs.Standing.{IsThere, StandsFor};
 
 use crate::error::StoreErr;
+use crate::read::stores_give_their_map;
 use crate::store::Store;
 use bl_code::Octets;
 use bl_entry::{Batch, Operation};
+use bl_folder::{folders_stand_for_one_map, held_are_whole, memories_tell_what_was_inserted};
 use bl_memtab::{MemTable, batches_are_held};
 use bl_names::names_one;
 use bl_open::{steady_disks_are_left, steady_disks_stand, writes_keep_disks_steady};
+use bl_read::sound_folders_give_their_map;
 use bl_site::Site;
 use bl_wal::entry_of;
 use std::alloc::Global;
@@ -50,6 +54,7 @@ fn insert_batch(
     requires bounds { last + length batch.now < 2 ^ 56 }
     requires holds { (written : List EntrySpec) × Holds memory.old written last }
     ensures holds { OnOk result ((written : List EntrySpec) → Holds memory.old written last → Holds memory.new (written ++ entries_from (last + 1) batch.now) (last + length batch.now)) }
+    ensures partly { OnErr result (HasTaken batch.now last memory.old memory.new) }
     ensures fit { AllByRecursion IsOperation batch.now }
     ensures memory { IfErr result (λ e. e ≡ StoreErr.OutOfMemory) }
 {
@@ -80,12 +85,18 @@ impl Store {
         ensures later { Rose (S.changes site.old) (S.changes site.new) ⊎ (S.changes site.new ≡ S.changes site.old) }
         ensures stands { S.shows → (names : List Name) (held : Held) → StandsFor names held self.old (S.disk site.old)
             → LeavesStore names held (with_write batch.now held) result self.new (S.disk site.new) }
+        ensures gives { S.shows → (names : List Name) (held : Held) → StandsFor names held self.old (S.disk site.old) → StillGives held result self.new (S.disk site.new) }
         ensures cuts { S.shows → S.certain site.old → (held : Held) → StandsFor [] held self.old (S.disk site.old) → CutsOfCall S.Site held (with_write batch.now held) site.old site.new }
         ensures own { WritesOwn S.Site result self.old self.new site.old site.new }
         ensures causes { IfErr result IsSyncing }
         ensures disk { IsErrOf result StoreErr.Disk → Rose (S.disk_faults site.old) (S.disk_faults site.new) }
     {
         names_one();
+        held_are_whole();
+        folders_stand_for_one_map();
+        memories_tell_what_was_inserted();
+        sound_folders_give_their_map();
+        stores_give_their_map();
         steady_disks_stand();
         steady_disks_are_left();
         writes_keep_disks_steady();
@@ -113,6 +124,7 @@ impl Store {
         ensures asked { OnOk result (Rose (S.changes site.old) (S.changes site.new)) }
         ensures stands { S.shows → (names : List Name) (held : Held) → StandsFor names held self.old (S.disk site.old)
             → LeavesStore names held (all_durable held) result self.new (S.disk site.new) }
+        ensures gives { S.shows → (names : List Name) (held : Held) → StandsFor names held self.old (S.disk site.old) → StillGives held result self.new (S.disk site.new) }
         ensures cuts { S.shows → S.certain site.old → (held : Held) → StandsFor [] held self.old (S.disk site.old) → CutsOfCall S.Site held (all_durable held) site.old site.new }
         ensures own { WritesOwn S.Site result self.old self.new site.old site.new }
         ensures causes { IfErr result IsMaking }
@@ -138,6 +150,7 @@ impl Store {
         ensures later { Rose (S.changes site.old) (S.changes site.new) ⊎ (S.changes site.new ≡ S.changes site.old) }
         ensures stands { S.shows → (names : List Name) (held : Held) → StandsFor names held self.old (S.disk site.old)
             → LeavesStore names held (with_write batch.now held) result self.new (S.disk site.new) }
+        ensures gives { S.shows → (names : List Name) (held : Held) → StandsFor names held self.old (S.disk site.old) → StillGives held result self.new (S.disk site.new) }
         ensures cuts { S.shows → S.certain site.old → (held : Held) → StandsFor [] held self.old (S.disk site.old) → CutsOfCall S.Site held (with_write batch.now held) site.old site.new }
         ensures own { WritesOwn S.Site result self.old self.new site.old site.new }
         ensures causes { IfErr result IsSyncing }
@@ -167,6 +180,7 @@ impl Store {
         ensures breaks { Breaks S.Site result self.old self.new site.old site.new }
         ensures stands { S.shows → (names : List Name) (held : Held) → StandsFor names held self.old (S.disk site.old)
             → LeavesStore names held (with_write batch.now held) result self.new (S.disk site.new) }
+        ensures gives { S.shows → (names : List Name) (held : Held) → StandsFor names held self.old (S.disk site.old) → StillGives held result self.new (S.disk site.new) }
         ensures cuts { S.shows → S.certain site.old → (held : Held) → StandsFor [] held self.old (S.disk site.old) → CutsOfCall S.Site held (with_write batch.now held) site.old site.new }
         ensures own { WritesOwn S.Site result self.old self.new site.old site.new }
         ensures causes { IfErr result IsMaking }
@@ -184,7 +198,7 @@ impl Store {
     /// sequence 2^56 - 1, and with 10^15 exactly where room takes more file numbers than are left and no other failure comes before;
     /// `Disk`; `OutOfMemory`. After `Disk`, and
     /// after `OutOfMemory` once the folder was asked, the store is broken, and the batch may be in the folder or not. Else the batch is
-    /// not written, and the store holds what it held.
+    /// not written, and the store holds what it held. Either way readers are given the map that it held.
     pub fn write<S: Site>(
         &mut self,
         alloc: Global,
@@ -199,10 +213,12 @@ impl Store {
         ensures stays { self.old.broken ≡ true → (self.new ≡ self.old) × (site.new ≡ site.old) }
         ensures stands { S.shows → self.old.broken ≡ false → (names : List Name) (held : Held) → StandsFor names held self.old (S.disk site.old)
             → LeavesStore names held (with_write batch.now held) result self.new (S.disk site.new) }
+        ensures gives { S.shows → self.old.broken ≡ false → (names : List Name) (held : Held) → StandsFor names held self.old (S.disk site.old) → StillGives held result self.new (S.disk site.new) }
         ensures cuts { S.shows → S.certain site.old → self.old.broken ≡ false → (held : Held) → StandsFor [] held self.old (S.disk site.old) → CutsOfCall S.Site held (with_write batch.now held) site.old site.new }
         ensures own { WritesOwn S.Site result self.old self.new site.old site.new }
         ensures disk { IsErrOf result StoreErr.Disk → Rose (S.disk_faults site.old) (S.disk_faults site.new) }
     {
+        stores_give_their_map();
         steady_disks_stand();
         steady_disks_are_left();
         if self.broken {

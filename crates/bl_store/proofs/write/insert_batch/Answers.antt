@@ -1,9 +1,12 @@
 use Rattle.std.proofs.Common.{◌≡◌, ◌+◌, ◌∷◌, ◌++◌, ◌∙◌, [], length, take, arith, ap, sym, subst, List}
 use Rattle.bl_entry.specs.Written.{entry, entries_from}
 use Rattle.bl_entry.specs.declared.batch.Operation.{Operation}
+use Rattle.bl_code.proofs.Basics.{on_any_err}
+use Rattle.bl_entry.specs.declared.key.Entry.{Entry}
 use Rattle.bl_memtab.specs.Filled.{Holds}
 use Rattle.bl_open.proofs.ReplayLemmas.{held_on, is_free, none_yet}
-use Rattle.bl_store.proofs.InsertLemmas.{taken, taken_length}
+use Rattle.bl_store.specs.Calls.{HasTaken}
+use Rattle.bl_store.proofs.InsertLemmas.{has_taken, taken, taken_length}
 use Rattle.bl_store.proofs.write.insert_batch.Goals as goal
 
 pub loop-operation-init : goal.loop-operation-init
@@ -36,3 +39,17 @@ loop-operation-preserved c =
       λ written h. subst (λ (os : List Operation). Holds c.insert.new.self (written ++ entries_from (c.args.last + 1) os) (c.args.last + length os)) (sym more)
           (held_on c.batches_are_held.ensures.one c.args.last c.loop-operation.seq (take index items) o c.entry_of.result c.loop-operation.memory at is written c.insert.new.self c.in_ok-insert.ensures.ok (i.1 written h)),
     )
+
+-- where memory runs out, the first operations are in the memory
+pub returns-in_err-copy-clause-partly : goal.returns-in_err-copy-clause-partly
+returns-in_err-copy-clause-partly c =
+    let i = c.loop-operation in
+    on_any_err c.from_residual.result (HasTaken c.args.batch.now c.args.last c.args.memory.now i.memory)
+    (has_taken c.args.batch.now c.operations-operation-items.result.now i.operation-index c.args.last c.args.memory.now i.memory c.operations-operation-items.ensures.value i.invariant.1)
+
+pub returns-in_err-insert-clause-partly : goal.returns-in_err-insert-clause-partly
+returns-in_err-insert-clause-partly c =
+    let i = c.loop-operation in
+    on_any_err c.from_residual-in_err-insert.result (HasTaken c.args.batch.now c.args.last c.args.memory.now c.insert.new.self)
+    (subst (λ (es : List Entry). HasTaken c.args.batch.now c.args.last c.args.memory.now es) (sym c.in_err-insert.ensures.err)
+    (has_taken c.args.batch.now c.operations-operation-items.result.now i.operation-index c.args.last c.args.memory.now i.memory c.operations-operation-items.ensures.value i.invariant.1))

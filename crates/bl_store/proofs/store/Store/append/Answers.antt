@@ -19,6 +19,10 @@ use Rattle.bl_store.proofs.HeldLemmas.{one_longer}
 use Rattle.bl_store.proofs.InsertLemmas.{bytes_more}
 use Rattle.bl_store.proofs.LogLemmas.{log_there, some_stand}
 use Rattle.bl_store.proofs.MomentLemmas.{cut_more, cut_of, one_call, settled_of}
+use Rattle.bl_store.proofs.GivesLemmas.{KeptLaws, kept_behind, still_gives}
+use Rattle.bl_store.specs.Reading.{StillGives, view_of}
+use Rattle.bl_store.specs.Held.{now_of}
+use Rattle.bl_store.proofs.PartLemmas.{partly_gives}
 use Rattle.bl_store.proofs.store.Store.append.Goals as goal
 
 pub returns-in-Err-clause-stands : goal.returns-in-Err-clause-stands
@@ -231,3 +235,40 @@ returns-clause-cuts g c = λ shown sure held.
     (one_call s from to Q (λ other. g.met.S.Site.only shown from other sure) (g.met.S.Site.only_now shown from) (λ other. g.met.S.Site.only shown to other (e.touches.certain shown sure))
     (e.tells_nothing.told shown) (e.touches.time shown) (λ k cut. cut_more held w held.durable (s.told from) k (cut_of cuts held here old (s.told from) k t cut))
     (λ k cut. cut_wrote one c.writes_keep_disks_steady.ensures.writes held here old new t w c.append.new.self e.number (e.appended shown).puts.others e.reads holds cuts (s.told to) k cut)))
+
+-- ---- what readers are given behind a failure
+
+pub returns-in-Err-clause-gives : goal.returns-in-Err-clause-gives
+returns-in-Err-clause-gives g c = λ shown names held.
+    let old = g.S.Site.disk c.args.site.now in
+    let new = g.S.Site.disk c.append.new.site in
+    let e = c.in-Err.ensures in
+    let i = c.self.inside in
+    let here : Stored = record { version = i.version; standing = i.standing; manifest = i.manifest; log = i.wal; next = i.numbers; last = i.last; memory = i.memory; waiting = i.waiting; broken = i.broken } in
+    let usable : i.broken ≡ false = ap (λ (x : Stored). x.broken) c.self.view_is ∙ c.requires.usable in
+    let keeps : KeepsAllBut (log_name i.wal.number) old new = elim e.errors [
+      | inl failed ↦ (e.torn shown (ap Err failed)).appends.puts.others
+      | inr memory ↦ λ other ne. ap (λ (d : Disk). d other) (e.touches.keeps shown (ap Err memory)).same
+    ] in
+    let after : Stored = record here { log = c.append.new.self; broken = c.failed-self-inside.result } in
+    let laws : KeptLaws = record { one = c.names_one.ensures; whole = c.held_are_whole.ensures; written = c.steady_disks_stand.ensures.written; gives = c.stores_give_their_map.ensures } in
+    let P : Stored → Type 0 = λ x. StandsFor names held x old → StillGives {T = Unit {0}} held (Err c.into.result) after new in
+    subst P c.self.view_is (λ t. still_gives laws names held here after old new c.self.invariant usable t (λ name own. keeps name (λ is. own (inl is))) refl refl)
+
+pub returns-in-Err-insert_batch-clause-gives : goal.returns-in-Err-insert_batch-clause-gives
+returns-in-Err-insert_batch-clause-gives g c = λ shown names held.
+    let old = g.S.Site.disk c.args.site.now in
+    let new = g.S.Site.disk c.append.new.site in
+    let e = c.in_default.ensures in
+    let i = c.self.inside in
+    let here : Stored = record { version = i.version; standing = i.standing; manifest = i.manifest; log = i.wal; next = i.numbers; last = i.last; memory = i.memory; waiting = i.waiting; broken = i.broken } in
+    let usable : i.broken ≡ false = ap (λ (x : Stored). x.broken) c.self.view_is ∙ c.requires.usable in
+    let w = c.args.batch.now in
+    let room : here.last + length w < 2 ^ 56 = subst (λ (x : Stored). x.last + length w < 2 ^ 56) (sym c.self.view_is) c.requires.room in
+    let after : Stored = record here { log = c.append.new.self; memory = c.insert_batch.new.memory; broken = true } in
+    let laws : KeptLaws = record { one = c.names_one.ensures; whole = c.held_are_whole.ensures; written = c.steady_disks_stand.ensures.written; gives = c.stores_give_their_map.ensures } in
+    let P : Stored → Type 0 = λ x. StandsFor names held x old → StillGives {T = Unit {0}} held (Err c.in-Err-insert_batch.error) after new in
+    subst P c.self.view_is (λ t.
+    kept_behind laws names held here after old new c.self.invariant t (λ name own. (e.appended shown).puts.others name (λ is. own (inl is))) (view_of after) here.last (now_of held) refl
+    (partly_gives c.folders_stand_for_one_map.ensures.holding c.memories_tell_what_was_inserted.ensures.memory c.sound_folders_give_their_map.ensures c.steady_disks_stand.ensures.hold c.steady_disks_stand.ensures.stand
+    names held here old c.self.invariant usable t w c.in-Err-insert_batch.ensures.fit room c.insert_batch.new.memory c.in-Err-insert_batch.ensures.partly))

@@ -5,6 +5,9 @@ use Rattle.bl_store.specs.Stored.{Stored}
 use Rattle.bl_store.specs.declared.error.StoreErr.{StoreErr}
 use Rattle.bl_store.proofs.ComposeLemmas.{cuts_second, leaves_result}
 use Rattle.bl_store.proofs.OwnLemmas.{own_join}
+use Rattle.bl_code.proofs.Basics.{on_any_err}
+use Rattle.bl_store.specs.Reading.{GivesMap}
+use Rattle.bl_store.specs.Held.{now_of}
 use Rattle.bl_store.proofs.store.Store.flush.Goals as goal
 
 pub returns-in_err-flush_waiting-clause-stands : goal.returns-in_err-flush_waiting-clause-stands
@@ -52,3 +55,13 @@ returns-clause-own g c =
     let f = c.in_ok-flush_waiting.ensures.flushed in
     own_join c.args.self.now c.flush_waiting.new.self c.flush_in_use-flushed.new.self c.in_ok-flush_waiting.ensures.upwards c.flush_in_use-flushed.ensures.upwards (inl (ap (λ (l : LogFile). l.number) f.log)) f.manifest
     g.S.Site c.flush_in_use-flushed.result c.in_ok-flush_waiting.field-0 c.args.site.now c.flush_waiting.new.site c.flush_in_use-flushed.new.site c.in_ok-flush_waiting.ensures.own c.flush_in_use-flushed.ensures.own
+
+pub returns-in_err-flush_waiting-clause-gives : goal.returns-in_err-flush_waiting-clause-gives
+returns-in_err-flush_waiting-clause-gives g c = λ shown usable names held t.
+    on_any_err c.from_residual.result (GivesMap (now_of held) c.flush_waiting.new.self (g.S.Site.disk c.flush_waiting.new.site)) (c.in_err-flush_waiting.ensures.gives shown names held t)
+
+pub returns-then-count-eq0-clause-gives : goal.returns-then-count-eq0-clause-gives
+returns-then-count-eq0-clause-gives g c = λ shown usable names held t. c.sync_log.ensures.gives shown names held (c.in_ok-flush_waiting.ensures.stands shown names held t).ok
+
+pub returns-clause-gives : goal.returns-clause-gives
+returns-clause-gives g c = λ shown usable names held t. c.flush_in_use-flushed.ensures.gives shown names held (c.in_ok-flush_waiting.ensures.stands shown names held t).ok

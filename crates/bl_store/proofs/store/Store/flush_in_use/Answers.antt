@@ -4,6 +4,9 @@ use Rattle.bl_store.specs.Stored.{Stored}
 use Rattle.bl_store.proofs.ComposeLemmas.{cuts_second, leaves_result, leaves_second}
 use Rattle.bl_store.proofs.LogLemmas.{less_durable, within_durable}
 use Rattle.bl_store.proofs.OwnLemmas.{own_join}
+use Rattle.bl_code.proofs.Basics.{on_any_err}
+use Rattle.bl_store.specs.Reading.{GivesMap}
+use Rattle.bl_store.specs.Held.{now_of}
 use Rattle.bl_store.proofs.store.Store.flush_in_use.Goals as goal
 
 pub returns-in_err-switch-clause-stands : goal.returns-in_err-switch-clause-stands
@@ -34,3 +37,10 @@ returns-clause-own g c =
     own_join c.args.self.now c.switch.new.self c.flush_asked.new.self w.upwards c.flush_asked.ensures.upwards (inr (subst Rattle.bl_names.specs.Names.IsNumber (sym number) w.number, omega (arith, number), omega (arith, number, next)))
     (ap (λ (x : Stored). x.manifest.number) w.switched)
     g.S.Site c.flush_asked.result c.in_ok-switch.field-0 c.args.site.now c.switch.new.site c.flush_asked.new.site w.own c.flush_asked.ensures.own
+
+pub returns-in_err-switch-clause-gives : goal.returns-in_err-switch-clause-gives
+returns-in_err-switch-clause-gives g c = λ shown names held t.
+    on_any_err c.from_residual.result (GivesMap (now_of held) c.switch.new.self (g.S.Site.disk c.switch.new.site)) (c.in_err-switch.ensures.gives shown names held t)
+
+pub returns-clause-gives : goal.returns-clause-gives
+returns-clause-gives g c = λ shown names held t. c.flush_asked.ensures.gives shown names (all_durable held) (c.in_ok-switch.ensures.stands shown names held t).ok

@@ -24,6 +24,9 @@ use Rattle.bl_store.proofs.HeldLemmas.{leaves_within}
 use Rattle.bl_store.proofs.MomentLemmas.{both_parts, cut_of, no_call, settled_of}
 use Rattle.bl_store.proofs.OwnLemmas.{none_log, none_manifest, none_own}
 use Rattle.bl_store.proofs.BreakLemmas.{true_false}
+use Rattle.bl_store.proofs.GivesLemmas.{KeptLaws, still_gives}
+use Rattle.bl_store.specs.Reading.{view_of}
+use Rattle.bl_store.specs.Stored.{IsInOrder}
 use Rattle.bl_store.proofs.store.Store.flush_waiting.Goals as goal
 use Rattle.bl_store.proofs.store.Store.flush_waiting.Goals.{then-failed, else-failed}
 
@@ -396,3 +399,25 @@ returns-clause-own g c =
       };
       certain = λ shown sure. tt;
     }) c.requires.there
+
+-- ---- what readers are given behind a failure
+
+pub returns-in-Err-clause-gives : goal.returns-in-Err-clause-gives
+returns-in-Err-clause-gives g c = λ shown names held t.
+    let s = g.S.Site in
+    let i = c.self.inside in
+    let here : Stored = record { version = i.version; standing = i.standing; manifest = i.manifest; log = i.wal; next = i.numbers; last = i.last; memory = i.memory; waiting = i.waiting; broken = i.broken } in
+    let after : Stored = record here { next = c.write_files.new.numbers; broken = c.breaks-self-inside.result } in
+    let laws : KeptLaws = record { one = c.names_one.ensures; whole = c.held_are_whole.ensures; written = c.steady_disks_stand.ensures.written; gives = c.stores_give_their_map.ensures } in
+    still_gives laws names held c.args.self.now after (s.disk c.args.site.now) (s.disk c.write_files.new.site) (subst IsInOrder c.self.view_is c.self.invariant) c.requires.usable t ((returns-in-Err-clause-own g c).others shown)
+    (ap view_of c.self.view_is) (ap (λ (x : Stored). x.last) c.self.view_is)
+
+pub returns-clause-gives : goal.returns-clause-gives
+returns-clause-gives g c = λ shown names held t.
+    let s = g.S.Site in
+    let i = c.self.inside in
+    let here : Stored = record { version = i.version; standing = i.standing; manifest = i.manifest; log = i.wal; next = i.numbers; last = i.last; memory = i.memory; waiting = i.waiting; broken = i.broken } in
+    let after : Stored = record here { manifest = c.install.new.manifest; next = c.write_files.new.numbers; broken = c.if-failed.self } in
+    let laws : KeptLaws = record { one = c.names_one.ensures; whole = c.held_are_whole.ensures; written = c.steady_disks_stand.ensures.written; gives = c.stores_give_their_map.ensures } in
+    still_gives laws names held c.args.self.now after (s.disk c.args.site.now) (s.disk c.install.new.site) (subst IsInOrder c.self.view_is c.self.invariant) c.requires.usable t ((returns-clause-own g c).others shown)
+    (ap view_of c.self.view_is) (ap (λ (x : Stored). x.last) c.self.view_is)

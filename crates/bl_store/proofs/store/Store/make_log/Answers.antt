@@ -1,4 +1,4 @@
-use Rattle.std.proofs.Common.{◌≡◌, ◌+◌, length, false, refl, sym, ◌∙◌, ap, subst, inl, inr, [], List, None, Some, Err, Ok, IsSome}
+use Rattle.std.proofs.Common.{◌≡◌, ◌+◌, length, false, true, refl, sym, ◌∙◌, ap, subst, inl, inr, [], List, None, Some, Err, Ok, IsSome}
 use Rattle.bl_site.specs.Calls.{Creates, DoneOrNot}
 use Rattle.bl_names.specs.Names.{IsNumber, manifest_name}
 use Rattle.bl_entry.specs.declared.key.Entry.{Entry}
@@ -13,6 +13,9 @@ use Rattle.bl_store.specs.Switching.{switched, undrawn}
 use Rattle.bl_store.proofs.MomentLemmas.{cut_of, one_name_call, settled_of}
 use Rattle.bl_store.proofs.OwnLemmas.{log_made, still_there_or}
 use Rattle.bl_store.proofs.SwitchLemmas.{cut_making, plain_of, settled_either, switch_stands, true_false}
+use Rattle.bl_store.proofs.GivesLemmas.{KeptLaws, still_gives, undrawn_in_order}
+use Rattle.bl_store.specs.Reading.{view_of}
+use Rattle.bl_store.specs.Stored.{IsInOrder}
 use Rattle.bl_store.proofs.store.Store.make_log.Goals as goal
 
 pub invariant_of-self : goal.invariant_of-self
@@ -146,3 +149,16 @@ returns-in-Err-clause-own g c =
       log = subst (λ n. IsSome (s.disk new (log_name n))) log (still_there_or (log_name number) (log_name c.args.self.now.log.number) (s.disk old) (s.disk new) (either shown) (c.requires.there shown).log);
     })
     (λ shown sure. tt)
+
+pub returns-in-Err-clause-gives : goal.returns-in-Err-clause-gives
+returns-in-Err-clause-gives g c = λ shown names held t.
+    let s = g.S.Site in
+    let old = s.disk c.args.site.now in
+    let new = s.disk c.create.new.site in
+    let number = c.args.number in
+    let i = c.self.inside in
+    let here : Stored = record { version = i.version; standing = i.standing; manifest = i.manifest; log = i.wal; next = i.numbers; last = i.last; memory = i.memory; waiting = i.waiting; broken = i.broken } in
+    let order : IsInOrder c.args.self.now = subst IsInOrder c.self.view_is c.self.invariant in
+    let laws : KeptLaws = record { one = c.names_one.ensures; whole = c.held_are_whole.ensures; written = c.steady_disks_stand.ensures.written; gives = c.stores_give_their_map.ensures } in
+    still_gives laws names (all_durable held) (undrawn number c.args.self.now) (record here { broken = true }) old new (undrawn_in_order number c.args.self.now order c.requires.drawn) c.requires.usable t ((returns-in-Err-clause-own g c).others shown)
+    (ap view_of c.self.view_is) (ap (λ (x : Stored). x.last) c.self.view_is)

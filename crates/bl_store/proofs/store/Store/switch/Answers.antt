@@ -12,6 +12,10 @@ use Rattle.bl_store.proofs.HeldLemmas.{leaves_within}
 use Rattle.bl_store.proofs.LogLemmas.{leaves_failed, leaves_then, within_durable}
 use Rattle.bl_store.proofs.MomentLemmas.{both_parts, cut_of, no_call, settled_of}
 use Rattle.bl_store.proofs.OwnLemmas.{own_join}
+use Rattle.bl_store.specs.Stored.{IsInOrder}
+use Rattle.bl_code.proofs.Basics.{on_any_err}
+use Rattle.bl_store.specs.Reading.{GivesMap}
+use Rattle.bl_store.specs.Held.{now_of}
 use Rattle.bl_store.proofs.store.Store.switch.Goals as goal
 
 pub returns-then-next-eq-FILE_LIMIT-clause-stands : goal.returns-then-next-eq-FILE_LIMIT-clause-stands
@@ -97,3 +101,22 @@ returns-clause-own g c =
     own_join c.args.self.now c.sync_log.new.self c.make_log.new.self (omega (arith, first)) (omega (arith, inside, last, next_is)) (inl (ap (λ (x : Stored). x.log.number) same)) (ap (λ (x : Stored). x.manifest.number) same)
     s c.make_log.result c.in_ok-sync_log.field-0 c.args.site.now c.sync_log.new.site c.make_log.new.site c.in_ok-sync_log.ensures.own
     (subst (λ x. WritesOwn s c.make_log.result x c.make_log.new.self c.sync_log.new.site c.make_log.new.site) path c.make_log.ensures.own)
+
+pub returns-then-next-eq-FILE_LIMIT-clause-gives : goal.returns-then-next-eq-FILE_LIMIT-clause-gives
+returns-then-next-eq-FILE_LIMIT-clause-gives g c = λ shown names held t.
+    c.stores_give_their_map.ensures names held c.args.self.now (g.S.Site.disk c.args.site.now) (subst IsInOrder c.self.view_is c.self.invariant) c.requires.usable t
+
+pub returns-in_err-sync_log-clause-gives : goal.returns-in_err-sync_log-clause-gives
+returns-in_err-sync_log-clause-gives g c = λ shown names held t.
+    on_any_err c.from_residual.result (GivesMap (now_of held) c.sync_log.new.self (g.S.Site.disk c.sync_log.new.site)) (c.in_err-sync_log.ensures.gives shown names held t)
+
+pub returns-clause-gives : goal.returns-clause-gives
+returns-clause-gives g c = λ shown names held t.
+    let s = g.S.Site in
+    let mid = s.disk c.sync_log.new.site in
+    let i = c.self-2.inside in
+    let here : Stored = record { version = i.version; standing = i.standing; manifest = i.manifest; log = i.wal; next = i.numbers; last = i.last; memory = i.memory; waiting = i.waiting; broken = i.broken } in
+    let number = c.in_ok-number.number in
+    let drawn : number ≡ i.numbers = c.in_ok-number.ensures.drawn.0 in
+    let path : undrawn number (record here { next = c.draw.new.self }) ≡ c.sync_log.new.self = (λ k. record here { next = drawn k }) ∙ c.self-2.view_is in
+    c.make_log.ensures.gives shown names held (subst (λ x. StandsFor names (all_durable held) x mid) (sym path) (c.in_ok-sync_log.ensures.stands shown names held t).ok)

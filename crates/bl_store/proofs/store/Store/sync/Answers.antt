@@ -5,3 +5,6 @@ returns-clause-stands g c = λ shown usable names held t. c.sync_log.ensures.sta
 
 pub returns-clause-cuts : goal.returns-clause-cuts
 returns-clause-cuts g c = λ shown sure usable held t. c.sync_log.ensures.cuts shown sure held t
+
+pub returns-clause-gives : goal.returns-clause-gives
+returns-clause-gives g c = λ shown usable names held t. c.sync_log.ensures.gives shown names held t

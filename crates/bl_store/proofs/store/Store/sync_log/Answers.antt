@@ -1,4 +1,4 @@
-use Rattle.std.proofs.Common.{◌≡◌, length, true, false, ◌∙◌, ap, subst, inl, inr, [], Err, Ok}
+use Rattle.std.proofs.Common.{◌≡◌, length, refl, true, false, ◌∙◌, ap, subst, inl, inr, [], Err, Ok}
 use Rattle.bl_site.specs.Disk.{Disk}
 use Rattle.bl_wal.specs.LogFile.{LogFile, log_name}
 use Rattle.bl_open.specs.SteadyCalls.{KeepsAllBut}
@@ -9,6 +9,8 @@ use Rattle.bl_store.specs.Standing.{StandsFor}
 use Rattle.bl_store.specs.Stored.{Stored}
 use Rattle.bl_store.proofs.LogLemmas.{log_there, more_stand, some_stand, sync_done, sync_failed}
 use Rattle.bl_store.proofs.MomentLemmas.{cut_of, one_call}
+use Rattle.bl_store.proofs.GivesLemmas.{KeptLaws, still_gives}
+use Rattle.bl_store.specs.Reading.{StillGives}
 use Rattle.bl_store.proofs.store.Store.sync_log.Goals as goal
 
 pub returns-in-Err-clause-stands : goal.returns-in-Err-clause-stands
@@ -80,3 +82,20 @@ returns-clause-cuts g c = λ shown sure held.
     (λ k cut. cut_of cuts held (record here { log = c.sync.new.self }) (s.disk new) (s.told new) k
     (more_stand c.names_one.ensures c.writes_keep_disks_steady.ensures.syncs [] held here (s.disk old) (s.disk new) t c.sync.new.self (ap (λ (l : LogFile). l.number) e.stays) (e.synced shown).puts.others here.broken
     (e.holds shown t.steady.own t.steady.synced (log_there c.names_one.ensures [] held here (s.disk old) t))) cut))
+
+pub returns-in-Err-clause-gives : goal.returns-in-Err-clause-gives
+returns-in-Err-clause-gives g c = λ shown names held.
+    let old = g.S.Site.disk c.args.site.now in
+    let new = g.S.Site.disk c.sync.new.site in
+    let i = c.self.inside in
+    let here : Stored = record { version = i.version; standing = i.standing; manifest = i.manifest; log = i.wal; next = i.numbers; last = i.last; memory = i.memory; waiting = i.waiting; broken = i.broken } in
+    let e = c.in-Err.ensures in
+    let usable : i.broken ≡ false = ap (λ (x : Stored). x.broken) c.self.view_is ∙ c.requires.usable in
+    let keeps : KeepsAllBut (log_name here.log.number) old new = elim e.errors [
+      | inl failed ↦ (e.frayed shown (ap Err failed)).puts.others
+      | inr memory ↦ λ other ne. ap (λ (d : Disk). d other) (e.touches.keeps shown (ap Err memory)).same
+    ] in
+    let laws : KeptLaws = record { one = c.names_one.ensures; whole = c.held_are_whole.ensures; written = c.steady_disks_stand.ensures.written; gives = c.stores_give_their_map.ensures } in
+    let P : Stored → Type 0 = λ x. StandsFor names held x old → StillGives {T = Unit {0}} held (Err c.into.result) (record here { log = c.sync.new.self; broken = true }) new in
+    subst P c.self.view_is (λ t.
+    still_gives laws names held here (record here { log = c.sync.new.self; broken = true }) old new c.self.invariant usable t (λ name own. keeps name (λ is. own (inl is))) refl refl)

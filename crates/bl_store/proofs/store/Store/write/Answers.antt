@@ -7,6 +7,7 @@ use Rattle.bl_store.specs.Standing.{StandsFor}
 use Rattle.bl_store.specs.Stored.{Stored}
 use Rattle.bl_store.proofs.HeldLemmas.{one_longer}
 use Rattle.bl_store.proofs.MomentLemmas.{cut_more, cut_of, no_call, settled_of}
+use Rattle.bl_store.specs.Stored.{IsInOrder}
 use Rattle.bl_store.proofs.store.Store.write.Goals as goal
 
 pub returns-then-from-self-clause-stands : goal.returns-then-from-self-clause-stands
@@ -41,3 +42,13 @@ returns-clause-stands g c = λ shown usable names held t. c.write_behind_room-wr
 
 pub returns-clause-cuts : goal.returns-clause-cuts
 returns-clause-cuts g c = λ shown sure usable held t. c.write_behind_room-written.ensures.cuts shown sure held t
+
+pub returns-then-from-self-clause-gives : goal.returns-then-from-self-clause-gives
+returns-then-from-self-clause-gives g c = λ shown usable names held t.
+    c.stores_give_their_map.ensures names held c.args.self.now (g.S.Site.disk c.args.site.now) (subst IsInOrder c.self.view_is c.self.invariant) usable t
+
+pub returns-then-bytes-self-clause-gives : goal.returns-then-bytes-self-clause-gives
+returns-then-bytes-self-clause-gives g c = λ shown usable names held t. c.append.ensures.gives shown names held t
+
+pub returns-clause-gives : goal.returns-clause-gives
+returns-clause-gives g c = λ shown usable names held t. c.write_behind_room-written.ensures.gives shown names held t

@@ -6,6 +6,9 @@ use Rattle.bl_open.specs.SteadyCuts.{LeavesMap}
 use Rattle.bl_store.proofs.OwnLemmas.{own_join}
 use Rattle.bl_store.proofs.HeldLemmas.{leaves_agree, leaves_within, maps_more, one_longer}
 use Rattle.bl_store.proofs.LogLemmas.{less_durable, within_durable}
+use Rattle.bl_code.proofs.Basics.{on_any_err}
+use Rattle.bl_store.specs.Reading.{GivesMap}
+use Rattle.bl_store.specs.Held.{now_of}
 use Rattle.bl_store.proofs.store.Store.write_behind_room.Goals as goal
 
 pub returns-in_err-make_room-clause-stands : goal.returns-in_err-make_room-clause-stands
@@ -49,3 +52,10 @@ returns-clause-own g c =
     let log = room.log in
     own_join c.args.self.now c.make_room.new.self c.append_asked.new.self c.make_room.ensures.upwards (omega (arith, next)) (inr (room.number, room.above, omega (arith, log))) room.manifest
     g.S.Site c.append_asked.result c.in_ok-make_room.field-0 c.args.site.now c.make_room.new.site c.append_asked.new.site c.in_ok-make_room.ensures.own c.append_asked.ensures.own
+
+pub returns-in_err-make_room-clause-gives : goal.returns-in_err-make_room-clause-gives
+returns-in_err-make_room-clause-gives g c = λ shown names held t.
+    on_any_err c.from_residual.result (GivesMap (now_of held) c.make_room.new.self (g.S.Site.disk c.make_room.new.site)) (c.in_err-make_room.ensures.gives shown names held t)
+
+pub returns-clause-gives : goal.returns-clause-gives
+returns-clause-gives g c = λ shown names held t. c.append_asked.ensures.gives shown names (all_durable held) (c.in_ok-make_room.ensures.stands shown names held t).ok
