@@ -1,0 +1,11 @@
+pub mod MapLemmas
+pub mod CutLemmas
+pub mod LineLemmas
+pub mod ServeLemmas
+pub mod BeginLemmas
+pub mod LogLemmas
+pub mod EndLemmas
+pub mod StatusLemmas
+pub mod RefutedLemmas
+pub mod NumberLemmas
+pub mod RefuseLemmas

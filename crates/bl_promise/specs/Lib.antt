@@ -1,0 +1,16 @@
+pub mod Start
+pub mod Run
+pub mod Cuts
+pub mod Telling
+pub mod Causes
+pub mod Headline
+pub mod Carried
+pub mod Lines
+pub mod Serving
+pub mod ServingLaws
+pub mod EndingLaws
+pub mod StatusLaws
+pub mod RefusingLaws
+pub mod Numbers
+pub mod Refuted
+pub mod Laws
